@@ -1,6 +1,13 @@
 -- Bytes and words of 32 bits. Bytes become words, and words bytes, most significant byte first. Assumes nothing.
 use mathlib.Core.List.{List, [], _∷_, _++_}
 use Prim.Native.Nat.{ℕ, _+_, _-_, _*_, _/_, _%_, _<_, _^_}
+use lib.Bits.{bitXor}
+
+infixl 65 _⊕_
+
+-- exclusive or, bit by bit
+abbrev pub _⊕_ : ℕ → ℕ → ℕ
+a ⊕ b = bitXor a b
 
 -- every element is below b
 abbrev pub AllBelow : ℕ → List ℕ → Type 0

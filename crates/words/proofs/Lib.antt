@@ -1,0 +1,2 @@
+pub mod Xors
+pub mod Words
