@@ -12,3 +12,7 @@ pub xor-twice : (a b : ℕ) → a ⊕ (a ⊕ b) ≡ b
 xor-twice a b = sym (xor-assoc a a b) ∙ ap (λ x. x ⊕ b) (xor-self a)
 
 pub ruleset xors = (xor-assoc, xor-self, xor-twice, xor-zero-l, xor-zero-r, xor-comm, xor-left)
+
+-- two joins of two, the other way round
+pub xor-medial : (a b c d : ℕ) → (a ⊕ b) ⊕ (c ⊕ d) ≡ (a ⊕ c) ⊕ (b ⊕ d)
+xor-medial a b c d = simp xors
