@@ -162,7 +162,7 @@ module _ (c : ℕ) (hc : c < 256) (test : T (bits-double c)) where
       at-bits i j hi hj =
           eqb→eq (product c (2 ^ j) (doubled c (2 ^ i))) (doubled c (product c (2 ^ j) (2 ^ i)))
           (all-at 8 (λ j. eqb (product c (2 ^ j) (doubled c (2 ^ i))) (doubled c (product c (2 ^ j) (2 ^ i))))
-            (all-at 8 (λ i. all-below 8 (λ j. eqb (product c (2 ^ j) (doubled c (2 ^ i))) (doubled c (product c (2 ^ j) (2 ^ i))))) test i hi) j hj)
+          (all-at 8 (λ i. all-below 8 (λ j. eqb (product c (2 ^ j) (doubled c (2 ^ i))) (doubled c (product c (2 ^ j) (2 ^ i))))) test i hi) j hj)
 
       at-bit : (i : ℕ) → i < 8 → product c a (doubled c (2 ^ i)) ≡ doubled c (product c a (2 ^ i))
       at-bit i hi =

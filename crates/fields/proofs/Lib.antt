@@ -1,3 +1,5 @@
 pub mod Entries
 pub mod Fields
 pub mod Quick
+pub mod Undone
+pub mod Mixes
