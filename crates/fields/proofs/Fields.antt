@@ -141,7 +141,7 @@ module _ (c : ℕ) (hc : c < 256) where
   unfolding product
   product-right a ha = record { stays = λ b hb. part-below c hc 8 a b ha; joins = λ b b′ hb hb′. part-right c hc 8 a b b′ }
 
-composed : (f g : ℕ → ℕ) → Linear f → Linear g → Linear (λ a. f (g a))
+pub composed : (f g : ℕ → ℕ) → Linear f → Linear g → Linear (λ a. f (g a))
 composed f g lf lg = record {
   stays = λ a ha. lf .stays (g a) (lg .stays a ha);
   joins = λ a b ha hb. ap f (lg .joins a b ha hb) ∙ lf .joins (g a) (g b) (lg .stays a ha) (lg .stays b hb);

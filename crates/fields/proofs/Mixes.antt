@@ -1,11 +1,11 @@
 -- Mixing over any linear doubling, and what four mixings give. Assumes nothing.
-use mathlib.Core.Path.{_≡_, refl, sym, ap, ap₂, _∙_}
+use mathlib.Core.Path.{_≡_, refl, sym, ap, ap₂, subst, _∙_}
 use Prim.Native.Nat.{ℕ, _<_, _^_}
 use native.Mathlib.Omega.{arith}
 use lib.Bits.{bitXor, xor-lt}
 use Rattle.words.specs.Words.{_⊕_, word, byte-of}
 use Rattle.words.proofs.Xors.{xors}
-use Rattle.words.proofs.Words.{byte-0, byte-1, byte-2, byte-3, byte-below, word-bytes, word-below}
+use Rattle.words.proofs.Words.{byte-0, byte-1, byte-2, byte-3, byte-below, word-bytes, word-below, words-same}
 use Rattle.fields.specs.Mixing.{mixed-bytes, mixed}
 use Rattle.fields.specs.Theorems.{Linear}
 
@@ -48,19 +48,19 @@ module _ (d : ℕ → ℕ) (l : Linear d) where
       ∙ l .joins (d (d (d a)) ⊕ d a) (d (d (d c))) (join-below (d (d (d a))) (d a) (l .stays (d (d a)) a2) a1) (l .stays (d (d c)) c2)
       ∙ ap (λ z. z ⊕ d (d (d (d c)))) (l .joins (d (d (d a))) (d a) (l .stays (d (d a)) a2) a1)
 
-  mixed-rows : (a b c e : ℕ) → mixed-bytes d a b c e ≡ word (row a e b c) (row b a c e) (row c b a e) (row e c a b)
+  mixed-rows : (a b c e : ℕ) → mixed-bytes d a b c e ≡ word (row a e b c) (row b a c e) (row c b e a) (row e c a b)
   unfolding mixed-bytes row
   mixed-rows a b c e = simp xors
 
   -- any of the four bytes of a word that is mixed twice
-  two-rows : (a b c e : ℕ) → a < 256 → b < 256 → c < 256 → e < 256 → row (row a e b c) (row e c a b) (row b a c e) (row c b a e) ≡ row₂ a c
+  two-rows : (a b c e : ℕ) → a < 256 → b < 256 → c < 256 → e < 256 → row (row a e b c) (row e c a b) (row b a c e) (row c b e a) ≡ row₂ a c
   unfolding row row₂
   two-rows a b c e ha hb hc he =
       ap₂ bitXor (ap₂ bitXor (d-row a e b c ha he hb hc) (d-row e c a b he hc ha hb)) refl ∙ sums (d (d a)) (d (d c)) (d (d e)) (d a) (d b) (d c) (d e) a b c e
     where
       sums :
           (a2 c2 e2 a1 b1 c1 e1 a b c e : ℕ)
-          → (a2 ⊕ e2 ⊕ (e1 ⊕ b1 ⊕ c1)) ⊕ (e2 ⊕ c2 ⊕ (c1 ⊕ a1 ⊕ b1)) ⊕ ((e1 ⊕ c1 ⊕ (c ⊕ a ⊕ b)) ⊕ (b1 ⊕ a1 ⊕ (a ⊕ c ⊕ e)) ⊕ (c1 ⊕ b1 ⊕ (b ⊕ a ⊕ e)))
+          → (a2 ⊕ e2 ⊕ (e1 ⊕ b1 ⊕ c1)) ⊕ (e2 ⊕ c2 ⊕ (c1 ⊕ a1 ⊕ b1)) ⊕ ((e1 ⊕ c1 ⊕ (c ⊕ a ⊕ b)) ⊕ (b1 ⊕ a1 ⊕ (a ⊕ c ⊕ e)) ⊕ (c1 ⊕ b1 ⊕ (b ⊕ e ⊕ a)))
           ≡ a2 ⊕ a ⊕ c2
       sums a2 c2 e2 a1 b1 c1 e1 a b c e = simp xors
 
@@ -70,3 +70,38 @@ module _ (d : ℕ → ℕ) (l : Linear d) where
     where
       sums : (a4 c4 a2 c2 a c : ℕ) → (a4 ⊕ a2 ⊕ c4) ⊕ (a2 ⊕ a ⊕ c2) ⊕ (c4 ⊕ c2 ⊕ a4) ≡ a
       sums a4 c4 a2 c2 a c = simp xors
+
+  -- the mixing of the word of four bytes
+  mixed-word : (a b c e : ℕ) → a < 256 → b < 256 → c < 256 → e < 256 → mixed d (word a b c e) ≡ word (row a e b c) (row b a c e) (row c b e a) (row e c a b)
+  unfolding mixed
+  mixed-word a b c e ha hb hc he = rw (byte-0 a b c e ha hb hc he, byte-1 a b c e hb hc he, byte-2 a b c e hc he, byte-3 a b c e he) (mixed-rows a b c e)
+
+  mixed-twice : (a b c e : ℕ) → a < 256 → b < 256 → c < 256 → e < 256 → mixed d (mixed d (word a b c e)) ≡ word (row₂ a c) (row₂ b e) (row₂ c a) (row₂ e b)
+  mixed-twice a b c e ha hb hc he =
+      ap (mixed d) (mixed-word a b c e ha hb hc he)
+      ∙ mixed-word (row a e b c) (row b a c e) (row c b e a) (row e c a b)
+        (row-below a e b c ha he hb hc) (row-below b a c e hb ha hc he) (row-below c b e a hc hb he ha) (row-below e c a b he hc ha hb)
+      ∙ words-same (two-rows a b c e ha hb hc he) (two-rows b c e a hb hc he ha) (two-rows c e a b hc he ha hb) (two-rows e a b c he ha hb hc)
+
+  mixed-four : (a b c e : ℕ) → a < 256 → b < 256 → c < 256 → e < 256 → mixed d (mixed d (mixed d (mixed d (word a b c e)))) ≡ word a b c e
+  mixed-four a b c e ha hb hc he =
+      ap (λ w. mixed d (mixed d w)) (mixed-twice a b c e ha hb hc he)
+      ∙ mixed-twice (row₂ a c) (row₂ b e) (row₂ c a) (row₂ e b) (row₂-below a c ha hc) (row₂-below b e hb he) (row₂-below c a hc ha) (row₂-below e b he hb)
+      ∙ words-same (four-rows a c ha hc) (four-rows b e hb he) (four-rows c a hc ha) (four-rows e b he hb)
+
+  pub mixed-below : (w : ℕ) → mixed d w < 2 ^ 32
+  unfolding mixed
+  mixed-below w =
+      let b0 = byte-below w 0 in
+      let b1 = byte-below w 1 in
+      let b2 = byte-below w 2 in
+      let b3 = byte-below w 3 in
+      subst (λ x. x < 2 ^ 32) (sym (mixed-rows (byte-of w 0) (byte-of w 1) (byte-of w 2) (byte-of w 3)))
+      (word-below _ _ _ _ (row-below _ _ _ _ b0 b3 b1 b2) (row-below _ _ _ _ b1 b0 b2 b3) (row-below _ _ _ _ b2 b1 b3 b0) (row-below _ _ _ _ b3 b2 b0 b1))
+
+  pub mixing-returns : (w : ℕ) → w < 2 ^ 32 → mixed d (mixed d (mixed d (mixed d w))) ≡ w
+  mixing-returns w below =
+      let whole = word-bytes w below in
+      ap (λ x. mixed d (mixed d (mixed d (mixed d x)))) (sym whole)
+      ∙ mixed-four (byte-of w 0) (byte-of w 1) (byte-of w 2) (byte-of w 3) (byte-below w 0) (byte-below w 1) (byte-below w 2) (byte-below w 3)
+      ∙ whole

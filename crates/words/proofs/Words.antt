@@ -1,10 +1,10 @@
 -- Words by their bytes. Assumes nothing.
-use mathlib.Core.Path.{_≡_, refl, sym, ap, _∙_}
+use mathlib.Core.Path.{_≡_, refl, sym, ap, ap₂, _∙_}
 use mathlib.Core.List.{List, [], _∷_}
 use Prim.Native.Nat.{ℕ, zero, suc, _+_, _*_, _/_, _%_, _<_, _^_}
 use native.Mathlib.Nat.{div-div-eq-div-mul}
 use native.Mathlib.Omega.{arith}
-use lib.Bits.{bitXor, xor-block, xor-lt}
+use lib.Bits.{bitXor, bitOr, xor-block, or-shifted}
 use lib.ListN.{getD}
 use Rattle.words.specs.Words.{AllBelow, word, byte-of}
 
@@ -22,6 +22,9 @@ xor-words a b c d a′ b′ c′ d′ hb hc hd hb′ hc′ hd′ =
     let q = horner a′ b′ c′ d′ in
     let r = horner (bitXor a a′) (bitXor b b′) (bitXor c c′) (bitXor d d′) in
     rw (p, q) (e ∙ ap (λ x. x * 256 + bitXor d d′) f ∙ ap (λ x. (x * 256 + bitXor c c′) * 256 + bitXor d d′) g ∙ sym r)
+
+pub words-same : {a b c d a′ b′ c′ d′ : ℕ} → a ≡ a′ → b ≡ b′ → c ≡ c′ → d ≡ d′ → word a b c d ≡ word a′ b′ c′ d′
+words-same e f g h = ap₂ _+_ (ap₂ _+_ (ap₂ _+_ (ap (λ x. x * 16777216) e) (ap (λ x. x * 65536) f)) (ap (λ x. x * 256) g)) h
 
 pub word-below : (a b c d : ℕ) → a < 256 → b < 256 → c < 256 → d < 256 → word a b c d < 2 ^ 32
 word-below a b c d ha hb hc hd = omega arith
@@ -63,3 +66,22 @@ pub at-below : (b : ℕ) (xs : List ℕ) → 0 < b → AllBelow b xs → (i : �
 at-below b [] pos all i = pos
 at-below b (x ∷ xs) pos all zero = all .0
 at-below b (x ∷ xs) pos all (suc i) = at-below b xs pos (all .1) i
+
+-- a word turned left by one, two and three bytes
+pub turn-8 : (a b c d : ℕ) → a < 256 → b < 256 → c < 256 → d < 256 → bitOr (word a b c d * 256 % 4294967296) (word a b c d / 16777216) ≡ word b c d a
+turn-8 a b c d ha hb hc hd =
+    let e : word a b c d * 256 % 4294967296 ≡ (b * 65536 + c * 256 + d) * 2 ^ 8 = omega arith in
+    let f : word a b c d / 16777216 ≡ a = omega arith in
+    rw (e, f) (or-shifted (b * 65536 + c * 256 + d) 8 a ha ∙ omega arith)
+
+pub turn-16 : (a b c d : ℕ) → a < 256 → b < 256 → c < 256 → d < 256 → bitOr (word a b c d * 65536 % 4294967296) (word a b c d / 65536) ≡ word c d a b
+turn-16 a b c d ha hb hc hd =
+    let e : word a b c d * 65536 % 4294967296 ≡ (c * 256 + d) * 2 ^ 16 = omega arith in
+    let f : word a b c d / 65536 ≡ a * 256 + b = omega arith in
+    rw (e, f) (or-shifted (c * 256 + d) 16 (a * 256 + b) (omega arith) ∙ omega arith)
+
+pub turn-24 : (a b c d : ℕ) → a < 256 → b < 256 → c < 256 → d < 256 → bitOr (word a b c d * 16777216 % 4294967296) (word a b c d / 256) ≡ word d a b c
+turn-24 a b c d ha hb hc hd =
+    let e : word a b c d * 16777216 % 4294967296 ≡ d * 2 ^ 24 = omega arith in
+    let f : word a b c d / 256 ≡ a * 65536 + b * 256 + c = omega arith in
+    rw (e, f) (or-shifted d 24 (a * 65536 + b * 256 + c) (omega arith) ∙ omega arith)
