@@ -70,7 +70,7 @@ over-times a b c e ha hb hc he =
     ap over-alpha (times-word a b c e ha hb hc he)
     ∙ over-word (b ⊕ times-beta 23 a) (c ⊕ times-beta 245 a) (e ⊕ times-beta 48 a) (times-beta 239 a) (join-beta 23 b a hb ha) (join-beta 245 c a hc ha) (join-beta 48 e a he ha) (beta-below 239 a ha)
     ∙ words-same (beta-turn 16 239 0 a ha refl ∙ none a) (again b (times-beta 23 a) (times-beta 39 (times-beta 239 a)) (beta-turn 39 239 23 a ha refl))
-      (again c (times-beta 245 a) (times-beta 6 (times-beta 239 a)) (beta-add 6 239 a)) (again e (times-beta 48 a) (times-beta 64 (times-beta 239 a)) (beta-turn 64 239 48 a ha refl))
+    (again c (times-beta 245 a) (times-beta 6 (times-beta 239 a)) (beta-add 6 239 a)) (again e (times-beta 48 a) (times-beta 64 (times-beta 239 a)) (beta-turn 64 239 48 a ha refl))
   where
     none : (a : ℕ) → times-beta 0 a ≡ a
     none a = unfold times-beta doublings in refl
@@ -80,7 +80,7 @@ times-over a b c e ha hb hc he =
     ap times-alpha (over-word a b c e ha hb hc he)
     ∙ times-word (times-beta 16 e) (a ⊕ times-beta 39 e) (b ⊕ times-beta 6 e) (c ⊕ times-beta 64 e) (beta-below 16 e he) (join-beta 39 a e ha he) (join-beta 6 b e hb he) (join-beta 64 c e hc he)
     ∙ words-same (again a (times-beta 39 e) (times-beta 23 (times-beta 16 e)) (beta-add 23 16 e)) (again b (times-beta 6 e) (times-beta 245 (times-beta 16 e)) (beta-turn 245 16 6 e he refl))
-      (again c (times-beta 64 e) (times-beta 48 (times-beta 16 e)) (beta-add 48 16 e)) (beta-add 239 16 e ∙ beta-255 e he)
+    (again c (times-beta 64 e) (times-beta 48 (times-beta 16 e)) (beta-add 48 16 e)) (beta-add 239 16 e ∙ beta-255 e he)
 
 -- what holds of every word of four bytes holds of every word
 by-bytes : (P : ℕ → Type 0) → ((a b c e : ℕ) → a < 256 → b < 256 → c < 256 → e < 256 → P (word a b c e)) → (w : ℕ) → w < 2 ^ 32 → P w

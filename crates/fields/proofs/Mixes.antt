@@ -80,7 +80,7 @@ module _ (d : ℕ → ℕ) (l : Linear d) where
   mixed-twice a b c e ha hb hc he =
       ap (mixed d) (mixed-word a b c e ha hb hc he)
       ∙ mixed-word (row a e b c) (row b a c e) (row c b e a) (row e c a b)
-        (row-below a e b c ha he hb hc) (row-below b a c e hb ha hc he) (row-below c b e a hc hb he ha) (row-below e c a b he hc ha hb)
+      (row-below a e b c ha he hb hc) (row-below b a c e hb ha hc he) (row-below c b e a hc hb he ha) (row-below e c a b he hc ha hb)
       ∙ words-same (two-rows a b c e ha hb hc he) (two-rows b c e a hb hc he ha) (two-rows c e a b hc he ha hb) (two-rows e a b c he ha hb hc)
 
   mixed-four : (a b c e : ℕ) → a < 256 → b < 256 → c < 256 → e < 256 → mixed d (mixed d (mixed d (mixed d (word a b c e)))) ≡ word a b c e

@@ -107,9 +107,9 @@ search-finds (suc n) f v u h e only =
     ⊎-elim
     (λ hit. rw (eq-eqb (f n) v hit, search-below) (only n (omega arith) hit))
     (λ miss.
-      let below : u < n = ⊎-elim (λ less. less) (λ more. absurd (miss (ap f (last u n h more) ∙ e))) (cases-lt u n) in
-      let others : (w : ℕ) → w < n → f w ≡ v → w ≡ u = λ w hw. only w (wider w n hw) in
-      rw (ne-eqb (f n) v miss, search-below) (search-finds n f v u below e others))
+    let below : u < n = ⊎-elim (λ less. less) (λ more. absurd (miss (ap f (last u n h more) ∙ e))) (cases-lt u n) in
+    let others : (w : ℕ) → w < n → f w ≡ v → w ≡ u = λ w hw. only w (wider w n hw) in
+    rw (ne-eqb (f n) v miss, search-below) (search-finds n f v u below e others))
     (cases-eq (f n) v)
   where
     last : (u n : ℕ) → u < suc n → n ≤ u → n ≡ u

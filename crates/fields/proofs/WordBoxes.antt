@@ -34,6 +34,20 @@ unfolding boxed
 boxed-below f stays w =
     word-below (f (byte-of w 0)) (f (byte-of w 1)) (f (byte-of w 2)) (f (byte-of w 3)) (stays (byte-of w 0) (byte-below w 0)) (stays (byte-of w 1) (byte-below w 1)) (stays (byte-of w 2) (byte-below w 2)) (stays (byte-of w 3) (byte-below w 3))
 
+-- a word box, by the boxed bytes
+pub mixed-boxed : (f d : ℕ → ℕ) → ((a : ℕ) → a < 256 → f a < 256) → (w : ℕ) → mixed d (boxed f w) ≡ mixed-bytes d (f (byte-of w 0)) (f (byte-of w 1)) (f (byte-of w 2)) (f (byte-of w 3))
+unfolding mixed boxed
+mixed-boxed f d stays w =
+    let h0 = stays (byte-of w 0) (byte-below w 0) in
+    let h1 = stays (byte-of w 1) (byte-below w 1) in
+    let h2 = stays (byte-of w 2) (byte-below w 2) in
+    let h3 = stays (byte-of w 3) (byte-below w 3) in
+    let e0 = byte-0 _ _ _ _ h0 h1 h2 h3 in
+    let e1 = byte-1 (f (byte-of w 0)) _ _ _ h1 h2 h3 in
+    let e2 = byte-2 (f (byte-of w 0)) (f (byte-of w 1)) _ _ h2 h3 in
+    let e3 = byte-3 (f (byte-of w 0)) (f (byte-of w 1)) (f (byte-of w 2)) _ h3 in
+    cc
+
 word-box-inverse : (box d : ℕ → ℕ) → Bijective box → Linear d → Inverse (λ w. mixed d (boxed box w)) (λ w. boxed (undone box) (unmixed d w))
 unfolding unmixed
 word-box-inverse box d b l = record {
@@ -79,14 +93,14 @@ module _ (d : ℕ → ℕ) (l : Linear d) where
       let xc = xor-lt 8 (d c) c dc hc in
       let xe = xor-lt 8 (d e) e de he in
       ap₂ bitXor
-        (ap₂ bitXor
-          (ap₂ bitXor (share-word e) (ap (λ w. bitOr (w * 256 % 4294967296) (w / 16777216)) (share-word c) ∙ turn-8 (d c ⊕ c) c c (d c) xc hc hc dc)
-            ∙ xor-words (d e ⊕ e) e e (d e) c c (d c) (d c ⊕ c) he he de hc dc xc)
-          (ap (λ w. bitOr (w * 65536 % 4294967296) (w / 65536)) (share-word b) ∙ turn-16 (d b ⊕ b) b b (d b) xb hb hb db)
-          ∙ xor-words ((d e ⊕ e) ⊕ c) (e ⊕ c) (e ⊕ d c) (d e ⊕ (d c ⊕ c)) b (d b) (d b ⊕ b) b (xor-lt 8 e c he hc) (xor-lt 8 e (d c) he dc) (xor-lt 8 (d e) (d c ⊕ c) de xc) db xb hb)
-        (ap (λ w. bitOr (w * 16777216 % 4294967296) (w / 256)) (share-word a) ∙ turn-24 (d a ⊕ a) a a (d a) xa ha ha da)
+      (ap₂ bitXor
+      (ap₂ bitXor (share-word e) (ap (λ w. bitOr (w * 256 % 4294967296) (w / 16777216)) (share-word c) ∙ turn-8 (d c ⊕ c) c c (d c) xc hc hc dc)
+      ∙ xor-words (d e ⊕ e) e e (d e) c c (d c) (d c ⊕ c) he he de hc dc xc)
+      (ap (λ w. bitOr (w * 65536 % 4294967296) (w / 65536)) (share-word b) ∙ turn-16 (d b ⊕ b) b b (d b) xb hb hb db)
+      ∙ xor-words ((d e ⊕ e) ⊕ c) (e ⊕ c) (e ⊕ d c) (d e ⊕ (d c ⊕ c)) b (d b) (d b ⊕ b) b (xor-lt 8 e c he hc) (xor-lt 8 e (d c) he dc) (xor-lt 8 (d e) (d c ⊕ c) de xc) db xb hb)
+      (ap (λ w. bitOr (w * 16777216 % 4294967296) (w / 256)) (share-word a) ∙ turn-24 (d a ⊕ a) a a (d a) xa ha ha da)
       ∙ xor-words ((d e ⊕ e) ⊕ c ⊕ b) (e ⊕ c ⊕ d b) (e ⊕ d c ⊕ (d b ⊕ b)) (d e ⊕ (d c ⊕ c) ⊕ b) (d a) (d a ⊕ a) a a
-        (xor-lt 8 (e ⊕ c) (d b) (xor-lt 8 e c he hc) db) (xor-lt 8 (e ⊕ d c) (d b ⊕ b) (xor-lt 8 e (d c) he dc) xb) (xor-lt 8 (d e ⊕ (d c ⊕ c)) b (xor-lt 8 (d e) (d c ⊕ c) de xc) hb) xa ha ha
+      (xor-lt 8 (e ⊕ c) (d b) (xor-lt 8 e c he hc) db) (xor-lt 8 (e ⊕ d c) (d b ⊕ b) (xor-lt 8 e (d c) he dc) xb) (xor-lt 8 (d e ⊕ (d c ⊕ c)) b (xor-lt 8 (d e) (d c ⊕ c) de xc) hb) xa ha ha
       ∙ sums a b c e (d a) (d b) (d c) (d e)
     where
       sums :

@@ -29,5 +29,8 @@ pub record Inverse (f g : ℕ → ℕ) : Type 0 where
 abbrev pub Alpha-inverse : Type 0
 Alpha-inverse = Inverse times-alpha over-alpha
 
-abbrev pub Boxes-inverse : Type 0
-Boxes-inverse = Inverse s1 s1-undone × Inverse s2 s2-undone
+abbrev pub S1-inverse : Type 0
+S1-inverse = Inverse s1 s1-undone
+
+abbrev pub S2-inverse : Type 0
+S2-inverse = Inverse s2 s2-undone

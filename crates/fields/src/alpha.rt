@@ -1,6 +1,7 @@
 // Multiplication of words by α and by its inverse.
 ghost use mathlib.Core.Path.{_≡_};
 ghost use Rattle.fields.specs.Alpha.{mul-alpha, div-alpha, times-alpha, over-alpha};
+ghost use Rattle.fields.specs.Theorems.{Alpha-inverse};
 use crate::tables::entry;
 
 // ISO/IEC 18033-4:2005, 7.2.5; table 11 of ETSI/SAGE SNOW 3G 256 v0.3, annex 2, 2.5.
@@ -537,9 +538,10 @@ pub fn div_alpha_entry(byte: u8) -> u32
     entry(&DIV_ALPHA, byte)
 }
 
-// αw.
+// αw. Multiplication by α and by its inverse undo each other.
 pub fn times_alpha(word: u32) -> u32
-    ensures { λ r. ⌜ r ≡ times-alpha word ⌝ }
+    ensures value { λ r. ⌜ r ≡ times-alpha word ⌝ }
+    ensures undone { λ _. ⌜ Alpha-inverse ⌝ }
 {
     (word << 8) ^ mul_alpha_entry((word >> 24) as u8)
 }

@@ -3,6 +3,7 @@ mod alpha;
 mod boxes;
 mod doubling;
 mod inverses;
+mod mixing;
 mod shares;
 mod tables;
 
@@ -15,5 +16,10 @@ pub use boxes::box_sr;
 pub use doubling::double;
 pub use inverses::box_sq_inverse;
 pub use inverses::box_sr_inverse;
+pub use mixing::mix;
+pub use mixing::s1;
+pub use mixing::s1_inverse;
+pub use mixing::s2;
+pub use mixing::s2_inverse;
 pub use shares::s1_share;
 pub use shares::s2_share;

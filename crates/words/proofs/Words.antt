@@ -44,6 +44,9 @@ byte-2 a b c d hc hd = omega arith
 pub byte-3 : (a b c d : ℕ) → d < 256 → byte-of (word a b c d) 3 ≡ d
 byte-3 a b c d hd = omega arith
 
+pub byte-low : (w : ℕ) → w % 256 ≡ byte-of w 3
+byte-low w = omega arith
+
 -- a word is the word of its bytes
 pub word-bytes : (w : ℕ) → w < 2 ^ 32 → word (byte-of w 0) (byte-of w 1) (byte-of w 2) (byte-of w 3) ≡ w
 word-bytes w below =
