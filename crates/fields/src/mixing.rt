@@ -4,9 +4,9 @@ ghost use Prim.Native.Nat.{ℕ, _<_};
 ghost use Rattle.fields.specs.Doubling.{doubled};
 ghost use Rattle.fields.specs.Mixing.{mixed-bytes, mixed, share, s1, s2, s1-undone, s2-undone};
 ghost use Rattle.fields.specs.Theorems.{Linear, Mixing-returns, S1-inverse, S2-inverse};
+use crate::dickson_undone::box_sq_inverse;
 use crate::doubling::double;
-use crate::inverses::box_sq_inverse;
-use crate::inverses::box_sr_inverse;
+use crate::rijndael_undone::box_sr_inverse;
 use crate::shares::s1_share;
 use crate::shares::s2_share;
 

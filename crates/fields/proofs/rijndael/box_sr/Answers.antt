@@ -3,7 +3,7 @@ use Rattle.fields.specs.Doubling.{doubled, partial-product, product}
 use Rattle.fields.specs.Boxes.{rotated, affine, sr}
 use Rattle.fields.proofs.Entries.{by-quick-test}
 use Rattle.fields.proofs.Quick.{sr-quick, sr-is}
-use Rattle.fields.proofs.boxes.box_sr.Needs as need
+use Rattle.fields.proofs.rijndael.box_sr.Needs as need
 
 pub returns : need.returns
 unfolding doubled partial-product product rotated affine sr-quick

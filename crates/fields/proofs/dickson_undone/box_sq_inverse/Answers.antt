@@ -2,7 +2,7 @@ use Rattle.fields.specs.Doubling.{doubled, partial-product, product}
 use Rattle.fields.specs.Boxes.{rotated, affine, sq, undone}
 use Rattle.fields.proofs.Quick.{sq-quick, sq-is}
 use Rattle.fields.proofs.Undone.{sq-bijective, by-undoing}
-use Rattle.fields.proofs.inverses.box_sq_inverse.Needs as need
+use Rattle.fields.proofs.dickson_undone.box_sq_inverse.Needs as need
 
 pub returns : need.returns
 unfolding doubled partial-product product rotated affine sq-quick
