@@ -1,2 +1,4 @@
 pub mod Xors
 pub mod Words
+pub mod Spelled
+pub mod Bytes

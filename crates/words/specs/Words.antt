@@ -35,3 +35,11 @@ bytes-of w = byte-of w 0 ∷ byte-of w 1 ∷ byte-of w 2 ∷ byte-of w 3 ∷ []
 abbrev pub words-bytes : List ℕ → List ℕ
 words-bytes [] = []
 words-bytes (w ∷ ws) = bytes-of w ++ words-bytes ws
+
+-- the words of a list of bytes, four after four; bytes that make no whole word are left out
+abbrev pub words-of : List ℕ → List ℕ
+words-of [] = []
+words-of (a ∷ []) = []
+words-of (a ∷ b ∷ []) = []
+words-of (a ∷ b ∷ c ∷ []) = []
+words-of (a ∷ b ∷ c ∷ d ∷ bs) = word a b c d ∷ words-of bs
