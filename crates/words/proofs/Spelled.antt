@@ -4,6 +4,7 @@ use mathlib.Core.List.{List, [], _∷_}
 use Prim.Native.Nat.{ℕ, zero, suc, _<_}
 use native.Mathlib.Omega.{arith}
 use lib.ListN.{length, getD}
+use Rattle.words.specs.Words.{AllBelow}
 
 -- n elements from place i on
 abbrev pub spell : ℕ → ℕ → List ℕ → List ℕ
@@ -19,3 +20,7 @@ spelled zero [] h = refl
 spelled zero (x ∷ xs) h = absurd (omega arith)
 spelled (suc n) [] h = absurd (omega arith)
 spelled (suc n) (x ∷ xs) h = ap (λ ys. x ∷ ys) (spelled n xs (omega arith) ∙ sym (spell-rest n 0 x xs))
+
+pub fits-spell : (b n i : ℕ) (xs : List ℕ) → ((k : ℕ) → getD xs k 0 < b) → AllBelow b (spell n i xs)
+fits-spell b zero i xs all = tt
+fits-spell b (suc n) i xs all = (all i, fits-spell b n (suc i) xs all)

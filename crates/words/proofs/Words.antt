@@ -1,6 +1,6 @@
 -- Words by their bytes. Assumes nothing.
 use mathlib.Core.Path.{_≡_, refl, sym, ap, ap₂, _∙_}
-use mathlib.Core.List.{List, [], _∷_}
+use mathlib.Core.List.{List, [], _∷_, _++_, reverse, reverseAux}
 use Prim.Native.Nat.{ℕ, zero, suc, _+_, _*_, _/_, _%_, _<_, _^_}
 use native.Mathlib.Nat.{div-div-eq-div-mul}
 use native.Mathlib.Omega.{arith}
@@ -88,3 +88,15 @@ turn-24 a b c d ha hb hc hd =
     let e : word a b c d * 16777216 % 4294967296 ≡ d * 2 ^ 24 = omega arith in
     let f : word a b c d / 256 ≡ a * 65536 + b * 256 + c = omega arith in
     rw (e, f) (or-shifted d 24 (a * 65536 + b * 256 + c) (omega arith) ∙ omega arith)
+
+-- what is below b throughout stays so where lists are joined, reversed and written out
+pub fits-append : (b : ℕ) (xs ys : List ℕ) → AllBelow b xs → AllBelow b ys → AllBelow b (xs ++ ys)
+fits-append b [] ys hx hy = hy
+fits-append b (x ∷ xs) ys hx hy = (hx .0, fits-append b xs ys (hx .1) hy)
+
+fits-reverse-onto : (b : ℕ) (xs ys : List ℕ) → AllBelow b xs → AllBelow b ys → AllBelow b (reverseAux xs ys)
+fits-reverse-onto b [] ys hx hy = hy
+fits-reverse-onto b (x ∷ xs) ys hx hy = fits-reverse-onto b xs (x ∷ ys) (hx .1) (hx .0, hy)
+
+pub fits-reverse : (b : ℕ) (xs : List ℕ) → AllBelow b xs → AllBelow b (reverse xs)
+fits-reverse b xs h = fits-reverse-onto b xs [] h tt
