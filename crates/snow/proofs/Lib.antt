@@ -1,3 +1,4 @@
-pub mod Shifts
+pub mod ShiftLaws
 pub mod Numbers
+pub mod Written
 pub mod RegisterLaws

@@ -1,6 +1,6 @@
 -- The bare register keeps the laws of generators. Assumes nothing.
 use mathlib.Core.Path.{_≡_, refl, sym, ap, subst, _∙_}
-use mathlib.Core.List.{List, [], _∷_, _++_}
+use mathlib.Core.List.{List, [], _∷_, _++_, reverse}
 use mathlib.Core.Logic.{_⊎_}
 use Prim.Native.Nat.{ℕ, zero, suc, _+_, _*_, _<_, _≤_, _^_}
 use native.Mathlib.Omega.{arith}
@@ -12,13 +12,16 @@ use Rattle.std.specs.declared.result.Result.the-variants.{Ok, Err}
 use Rattle.generator.specs.declared.Fault.{Fault}
 use Rattle.generator.specs.declared.Fault.the-variants.{Key, Iv}
 use Rattle.generator.specs.Meaning.{Meaning, State, Lawful, Reaches}
-use Rattle.words.specs.Words.{AllBelow}
+use Rattle.generator.specs.Calls.{Named}
+use Rattle.words.specs.Words.{AllBelow, words-bytes}
+use Rattle.words.proofs.Bytes.{bytes-of-bytes, length-bytes}
+use borrow.Author.Tests.{eq-eqb}
 use Rattle.words.proofs.Words.{fits-append}
 use Rattle.words.proofs.Spelled.{spell, fits-spell}
 use Rattle.fields.specs.Alpha.{over-alpha}
 use Rattle.snow.specs.Register.{at, feedback, shifted, unshifted, numbered, register-load, register}
-use Rattle.snow.proofs.Numbers.{numbered-state, numbered-one, plain-member}
-use Rattle.snow.proofs.Shifts.{feedback-below, dropped-below, plain-back, plain-again, words-of-state}
+use Rattle.snow.proofs.Numbers.{numbered-state, numbered-one, plain-member, unnumbered, numbered-unnumbered, length-unnumbered}
+use Rattle.snow.proofs.ShiftLaws.{feedback-below, dropped-below, plain-back, plain-again, words-of-state}
 
 register-next-state : {s : List ℕ} → State 16 s → State 16 (register .next s)
 register-next-state {s} st =
@@ -63,3 +66,25 @@ register-lawful = record {
   load-short = λ r. (omega (arith, says r .0), omega (arith, says r .1));
   fault-member = λ {key = key} {iv = iv} {f = f} e. plain-member f (faults key iv f e);
 }
+
+-- what `origin` writes and answers
+pub register-named : (ws key iv after : List ℕ) → State 16 ws → 255 ≤ length key → 255 ≤ length iv → after ≡ words-bytes (reverse ws) ++ drop (4 * length (reverse ws)) key
+    → Named register 0 ws key iv (Ok (64, 0)) after iv
+register-named ws key iv after st long long′ e =
+    let count : length (unnumbered ws) ≡ 64 = length-unnumbered ws ∙ ap (λ n. 4 * n) (st .count) in (
+      (long, long′),
+      (
+        unnumbered ws,
+        [],
+        record {
+          key-bytes = bytes-of-bytes (reverse ws);
+          iv-bytes = tt;
+          start = ws;
+          loads = rw (eq-eqb (length (unnumbered ws)) 64 count) (ap Ok (numbered-unnumbered ws (st .fits)));
+          arrives = refl;
+        },
+        ap (λ n. (n, 0)) (sym count),
+        e ∙ ap (λ n. unnumbered ws ++ drop n key) (sym (length-bytes (reverse ws))),
+        refl,
+      ),
+    )

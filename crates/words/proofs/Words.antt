@@ -1,11 +1,14 @@
 -- Words by their bytes. Assumes nothing.
-use mathlib.Core.Path.{_≡_, refl, sym, ap, ap₂, _∙_}
+use mathlib.Core.Path.{_≡_, refl, sym, ap, ap₂, subst, _∙_}
+use mathlib.Core.Logic.{⊎-elim}
 use mathlib.Core.List.{List, [], _∷_, _++_, reverse, reverseAux}
 use Prim.Native.Nat.{ℕ, zero, suc, _+_, _*_, _/_, _%_, _<_, _^_}
 use native.Mathlib.Nat.{div-div-eq-div-mul}
 use native.Mathlib.Omega.{arith}
 use lib.Bits.{bitXor, bitOr, xor-block, or-shifted}
-use lib.ListN.{getD}
+use lib.ListN.{length, getD}
+use Rattle.std.proofs.shelf.Lists.{getD-past}
+use Rattle.std.proofs.shelf.Tests.{cases-lt}
 use Rattle.words.specs.Words.{AllBelow, word, byte-of}
 
 -- the word of four bytes, by one byte after the other
@@ -100,3 +103,11 @@ fits-reverse-onto b (x ∷ xs) ys hx hy = fits-reverse-onto b xs (x ∷ ys) (hx 
 
 pub fits-reverse : (b : ℕ) (xs : List ℕ) → AllBelow b xs → AllBelow b (reverse xs)
 fits-reverse b xs h = fits-reverse-onto b xs [] h tt
+
+-- a bound on each of n elements is one on every element, and on the list
+pub below-everywhere : (b n : ℕ) (xs : List ℕ) → 0 < b → length xs ≡ n → ((i : ℕ) → i < n → getD xs i 0 < b) → (i : ℕ) → getD xs i 0 < b
+below-everywhere b n xs pos len each i = ⊎-elim (each i) (λ past. subst (λ x. x < b) (sym (getD-past xs i 0 (omega arith))) pos) (cases-lt i n)
+
+pub all-from-each : (b : ℕ) (xs : List ℕ) → ((i : ℕ) → getD xs i 0 < b) → AllBelow b xs
+all-from-each b [] each = tt
+all-from-each b (x ∷ xs) each = (each 0, all-from-each b xs (λ i. each (suc i)))
