@@ -2,3 +2,4 @@ pub mod ShiftLaws
 pub mod Numbers
 pub mod Written
 pub mod RegisterLaws
+pub mod Snow2Steps

@@ -1,2 +1,4 @@
 pub mod Refusals
 pub mod Register
+pub mod Loading
+pub mod Snow2
