@@ -2,4 +2,5 @@ pub mod ShiftLaws
 pub mod Numbers
 pub mod Written
 pub mod RegisterLaws
+pub mod LoadLaws
 pub mod Snow2Steps

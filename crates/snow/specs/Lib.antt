@@ -1,4 +1,5 @@
 pub mod Refusals
 pub mod Register
 pub mod Loading
+pub mod Origins
 pub mod Snow2
