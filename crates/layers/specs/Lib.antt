@@ -1,0 +1,3 @@
+pub mod Pair
+pub mod EveryOther
+pub mod Piles

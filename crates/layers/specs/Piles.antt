@@ -1,0 +1,36 @@
+-- What holds of every pile of the two layers over generators that keep their laws. Assumes nothing.
+use mathlib.Core.Path.{_≡_}
+use mathlib.Core.List.{List, _++_}
+use Prim.Native.Nat.{ℕ, _*_}
+use lib.Bits.{bitXor}
+use Rattle.generator.specs.Meaning.{Meaning, Lawful, State, times}
+use Rattle.layers.specs.Pair.{pair}
+use Rattle.layers.specs.EveryOther.{every-other}
+
+-- layers over layers, down to generators
+pub data Pile : Type 0 where
+  generator : Meaning → Pile
+  paired : Pile → Pile → Pile
+  thinned : Pile → Pile
+
+abbrev pub meaning-of : Pile → Meaning
+meaning-of (generator m) = m
+meaning-of (paired p q) = pair (meaning-of p) (meaning-of q)
+meaning-of (thinned p) = every-other (meaning-of p)
+
+-- each generator at the bottom keeps its laws
+abbrev pub LawfulBelow : Pile → Type 0
+LawfulBelow (generator m) = Lawful m
+LawfulBelow (paired p q) = LawfulBelow p × LawfulBelow q
+LawfulBelow (thinned p) = LawfulBelow p
+
+-- word n of the keystream from a state on
+abbrev pub stream : Meaning → List ℕ → ℕ → ℕ
+stream m s n = m .word (times n (m .next) s)
+
+pub record Piles-stand : Type 0 where
+  pub lawful : (p : Pile) → LawfulBelow p → Lawful (meaning-of p)
+  -- the keystream of a pair is that of the first joined with that of the second, word by word
+  pub pair-stream : {a b : Meaning} {s t : List ℕ} → Lawful a → Lawful b → State (a .size) s → State (b .size) t → (n : ℕ) → stream (pair a b) (s ++ t) n ≡ bitXor (stream a s n) (stream b t n)
+  -- the keystream of every other word is every other word of the keystream
+  pub every-other-stream : (m : Meaning) (s : List ℕ) (n : ℕ) → stream (every-other m) s n ≡ stream m s (2 * n)
