@@ -1,1 +1,5 @@
 pub mod EveryOtherLaws
+pub mod PairParts
+pub mod PairLaws
+pub mod PilesStand
+pub mod Written

@@ -27,6 +27,11 @@ abbrev pub at-place : ℕ → Fault → Fault
 at-place n (Key member) = Key n
 at-place n (Iv member) = Iv n
 
+-- the same of an answer
+abbrev pub answer-at : ℕ → Result Unit Fault → Result Unit Fault
+answer-at n (Ok u) = Ok u
+answer-at n (Err f) = Err (at-place n f)
+
 -- both loads, one after the other, or the first fault
 abbrev pub both-loads : Result (List ℕ) Fault → Result (List ℕ) Fault → Result (List ℕ) Fault
 both-loads (Err f) second = Err (at-place 1 f)

@@ -31,6 +31,6 @@ stream m s n = m .word (times n (m .next) s)
 pub record Piles-stand : Type 0 where
   pub lawful : (p : Pile) → LawfulBelow p → Lawful (meaning-of p)
   -- the keystream of a pair is that of the first joined with that of the second, word by word
-  pub pair-stream : {a b : Meaning} {s t : List ℕ} → Lawful a → Lawful b → State (a .size) s → State (b .size) t → (n : ℕ) → stream (pair a b) (s ++ t) n ≡ bitXor (stream a s n) (stream b t n)
+  pub pair-stream : {a : Meaning} {s : List ℕ} → Lawful a → State (a .size) s → (b : Meaning) (t : List ℕ) (n : ℕ) → stream (pair a b) (s ++ t) n ≡ bitXor (stream a s n) (stream b t n)
   -- the keystream of every other word is every other word of the keystream
   pub every-other-stream : (m : Meaning) (s : List ℕ) (n : ℕ) → stream (every-other m) s n ≡ stream m s (2 * n)
