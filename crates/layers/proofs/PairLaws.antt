@@ -5,7 +5,7 @@ use Prim.Native.Nat.{ℕ, zero, suc, _+_, _<_, _≤_, _^_}
 use native.Mathlib.Omega.{arith}
 use lib.Bits.{bitXor, xor-lt}
 use lib.ListN.{length, take, drop, length-append}
-use Rattle.std.proofs.shelf.Lists.{take-append-drop, take-at, drop-at}
+use Rattle.std.proofs.shelf.Lists.{take-append-drop}
 use Rattle.std.specs.declared.option.Option.{Option}
 use Rattle.std.specs.declared.option.Option.the-variants.{Some, None}
 use Rattle.std.specs.declared.result.Result.{Result}
@@ -16,15 +16,14 @@ use Rattle.generator.specs.Refusals.{member}
 use Rattle.generator.specs.Meaning.{Meaning, Lawful, Reaches, State, times}
 use Rattle.layers.specs.Pair.{joined, parts, at-place, both-loads, parts-load, pair}
 use Rattle.layers.specs.Piles.{stream}
-use Rattle.layers.proofs.PairParts.{first-state, second-state, joined-state, Parted, BothReach, apart, apart-at}
+use Rattle.layers.proofs.PairParts.{first-state, second-state, joined-state, at-parts, Parted, BothReach, apart, apart-at}
 
 -- steps of both parts are undone by steps of both parts
 undone : (n : ℕ) (f g f′ g′ : List ℕ → List ℕ) (s : List ℕ) → length (f (take n s)) ≡ n → g (f (take n s)) ≡ take n s → g′ (f′ (drop n s)) ≡ drop n s
     → g (take n (f (take n s) ++ f′ (drop n s))) ++ g′ (drop n (f (take n s) ++ f′ (drop n s))) ≡ s
 undone n f g f′ g′ s count one two =
-    let front = take-at (f (take n s)) (f′ (drop n s)) n count in
-    let rest = drop-at (f (take n s)) (f′ (drop n s)) n count in
-    ap (λ x. g x ++ g′ (drop n (f (take n s) ++ f′ (drop n s)))) front ∙ ap (λ x. g (f (take n s)) ++ g′ x) rest ∙ ap (λ x. x ++ g′ (f′ (drop n s))) one ∙ ap (λ x. take n s ++ x) two
+    at-parts (λ x y. g x ++ g′ y) n (f (take n s)) (f′ (drop n s)) count ∙ ap (λ x. x ++ g′ (f′ (drop n s))) one
+    ∙ ap (λ x. take n s ++ x) two
     ∙ take-append-drop n s
 
 place-member : (n : ℕ) (f : Fault) → member (at-place n f) ≡ n
@@ -91,14 +90,10 @@ module _ (a b : Meaning) (la : Lawful a) where
   both-times : {s : List ℕ} → State (a .size) s → (t : List ℕ) (n : ℕ) → times n (pair a b .next) (s ++ t) ≡ times n (a .next) s ++ times n (b .next) t
   both-times st t zero = refl
   both-times {s} st t (suc n) =
-      let count = many-state a la st n .count in
-      let x = times n (a .next) s in
-      let y = times n (b .next) t in
-      ap (pair a b .next) (both-times st t n) ∙ ap (λ u. a .next u ++ b .next (drop (a .size) (x ++ y))) (take-at x y (a .size) count) ∙ ap (λ u. a .next x ++ b .next u) (drop-at x y (a .size) count)
+      ap (pair a b .next) (both-times st t n)
+      ∙ at-parts (λ x y. a .next x ++ b .next y) (a .size) (times n (a .next) s) (times n (b .next) t) (many-state a la st n .count)
 
   pub pair-words : {s : List ℕ} → State (a .size) s → (t : List ℕ) (n : ℕ) → stream (pair a b) (s ++ t) n ≡ bitXor (stream a s n) (stream b t n)
   pair-words {s} st t n =
-      let count = many-state a la st n .count in
-      let x = times n (a .next) s in
-      let y = times n (b .next) t in
-      ap (pair a b .word) (both-times st t n) ∙ ap (λ u. bitXor (a .word u) (b .word (drop (a .size) (x ++ y)))) (take-at x y (a .size) count) ∙ ap (λ u. bitXor (a .word x) (b .word u)) (drop-at x y (a .size) count)
+      ap (pair a b .word) (both-times st t n)
+      ∙ at-parts (λ x y. bitXor (a .word x) (b .word y)) (a .size) (times n (a .next) s) (times n (b .next) t) (many-state a la st n .count)

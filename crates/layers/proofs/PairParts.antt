@@ -45,6 +45,10 @@ module _ (n k : ℕ) where
   pub joined-state : {s t : List ℕ} → State n s → State k t → State (n + k) (s ++ t)
   joined-state {s} {t} st st′ = record { count = simp length-append (omega (arith, st .count, st′ .count)); fits = below-append _ s t (st .fits) (st′ .fits) }
 
+-- what is said of the two parts of a state that was joined is said of the parts that it was joined of
+pub at-parts : {X : Type 0} (h : List ℕ → List ℕ → X) (n : ℕ) (s t : List ℕ) → length s ≡ n → h (take n (s ++ t)) (drop n (s ++ t)) ≡ h s t
+at-parts h n s t count = ap (λ x. h x (drop n (s ++ t))) (take-at s t n count) ∙ ap (h s) (drop-at s t n count)
+
 -- a key or an IV that has parts is those two joined
 pub record Parted (whole first second : List ℕ) : Type 0 where
   pub is : whole ≡ joined first second

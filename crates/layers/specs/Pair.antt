@@ -1,4 +1,5 @@
 -- Two generators that run side by side, with the exclusive or of their words as keystream. Assumes nothing.
+use mathlib.Core.Path.{_≡_}
 use mathlib.Core.Bool.{cond, _||_}
 use mathlib.Core.List.{List, [], _∷_, _++_}
 use Prim.Native.Nat.{ℕ, _+_}
@@ -52,3 +53,7 @@ pair a b = record {
   back = λ s. a .back (take (a .size) s) ++ b .back (drop (a .size) s);
   word = λ s. bitXor (a .word (take (a .size) s)) (b .word (drop (a .size) s));
 }
+
+-- What loading both answers, and where it is accepted the two states.
+abbrev pub BothLoaded : Meaning → Meaning → List ℕ → List ℕ → Result Unit Fault → List ℕ → List ℕ → Type 0
+BothLoaded a b key iv r first second = elim (pair a b .load key iv) [ Ok s ↦ (r ≡ Ok tt) × (first ++ second ≡ s) | Err f ↦ r ≡ Err f ]

@@ -8,6 +8,7 @@ mod parts;
 pub use every_other::EveryOther;
 pub use every_other::EveryOtherGenerator;
 pub use pair::Pair;
+pub use pair::PairGenerator;
 
 // On its contract stands what holds of every pile of layers.
 pub fn piles_stand() -> u8
