@@ -3,11 +3,11 @@ use mathlib.Core.Path.{_≡_, refl, sym, ap, subst, _∙_}
 use mathlib.Core.Bool.{true}
 use mathlib.Core.List.{List, [], _∷_, _++_}
 use mathlib.Core.Logic.{_⊎_, ⊎-elim}
-use Prim.Native.Nat.{ℕ, zero, suc, _+_, _<_, _≤_, _^_}
+use Prim.Native.Nat.{ℕ, _+_, _-_, _<_, _≤_}
 use native.Mathlib.Omega.{arith}
 use lib.ListN.{length, take, drop, replicate, length-append}
 use Rattle.std.proofs.shelf.Lists.{take-at, replicate-append-replicate}
-use Rattle.std.specs.Results.{isErr}
+use Rattle.std.specs.Results.{isErr, ErrBy}
 use Rattle.std.specs.declared.result.Result.{Result}
 use Rattle.std.specs.declared.result.Result.the-variants.{Ok, Err}
 use Rattle.generator.specs.declared.Fault.{Fault}
@@ -36,52 +36,57 @@ pub record Found (m : Meaning) (s : List ℕ) (k i : ℕ) (key iv : List ℕ) : 
   pub iv-length : length iv ≡ i
   pub reaches : Reaches m key iv 0 s
 
--- what a member wrote to the front of two buffers; n and n′ are the lengths as a part of a buffer has them
-pub found : (m : Meaning) (s key iv : List ℕ) (k i n n′ : ℕ) (key′ iv′ : List ℕ) → Lawful m → Named m 0 s key iv (Ok (k, i)) key′ iv′ → n ≡ k → n′ ≡ i → Found m s k i (take n key′) (take n′ iv′)
-found m s key iv k i n n′ key′ iv′ lawful named e e′ =
+-- the buffers that a member is lent
+abbrev pub lent : List ℕ
+lent = replicate 255 0
+
+-- what a member wrote to the front of them, as parts of them
+pub found : {m : Meaning} → Lawful m → (s : List ℕ) (k i : ℕ) (key iv : List ℕ) → Named m 0 s lent lent (Ok (k, i)) key iv → Found m s k i (take (k - 0) key) (take (i - 0) iv)
+found {m} lawful s k i key iv named =
     let own-key = named .1 .0 in
     let own-iv = named .1 .1 in
-    let reaches = named .1 .2 in
-    let short = lawful .load-short reaches in
+    let short = lawful .load-short (named .1 .2) in
     let count : k ≡ length own-key = ap (λ p. p .0) (named .1 .3) in
     let count′ : i ≡ length own-iv = ap (λ p. p .1) (named .1 .3) in
-    let is : take n key′ ≡ own-key = ap (take n) (named .1 .4) ∙ take-at own-key _ n (sym (e ∙ count)) in
-    let is′ : take n′ iv′ ≡ own-iv = ap (take n′) (named .1 .5) ∙ take-at own-iv _ n′ (sym (e′ ∙ count′)) in
+    let is : take (k - 0) key ≡ own-key = ap (take (k - 0)) (named .1 .4) ∙ take-at own-key _ (k - 0) (omega arith) in
+    let is′ : take (i - 0) iv ≡ own-iv = ap (take (i - 0)) (named .1 .5) ∙ take-at own-iv _ (i - 0) (omega arith) in
     record {
       key-short = omega (arith, short .0);
       iv-short = omega (arith, short .1);
       key-length = ap length is ∙ sym count;
       iv-length = ap length is′ ∙ sym count′;
-      reaches = subst (λ x. Reaches m x (take n′ iv′) 0 s) (sym is) (subst (λ x. Reaches m own-key x 0 s) (sym is′) reaches);
+      reaches = subst (λ x. Reaches m x (take (i - 0) iv) 0 s) (sym is) (subst (λ x. Reaches m own-key x 0 s) (sym is′) (named .1 .2));
     }
 
--- a member with room for a key and an IV refuses only where it has none
-none-found : (m : Meaning) (s key iv key′ iv′ : List ℕ) (f : OriginFault) → Roomy key iv → Named m 0 s key iv (Err f) key′ iv′ → (f ≡ NoOrigin) × ((k i : List ℕ) → Reaches m k i 0 s → ⊥)
-none-found m s key iv key′ iv′ NoOrigin room named = (refl, named .1)
-none-found m s key iv key′ iv′ ShortBuffer room named = absurd (⊎-elim (λ lt. omega (arith, room .0)) (λ lt. omega (arith, room .1)) (named .0))
+-- a member refuses only where it has no key and IV, since the buffers are long enough
+none-found : (m : Meaning) (s key iv : List ℕ) (f : OriginFault) → Named m 0 s lent lent (Err f) key iv → (f ≡ NoOrigin) × ((k i : List ℕ) → Reaches m k i 0 s → ⊥)
+none-found m s key iv NoOrigin named = (refl, named .1)
+none-found m s key iv ShortBuffer named = absurd (⊎-elim (λ lt. omega arith) (λ lt. omega arith) (named .0))
+
+-- the fault that a `?` hands on
+pub handed-on : {X : Type 0} (r : Result X OriginFault) (f : OriginFault) → ErrBy r (λ e. e ≡ f) → r ≡ Err f
+handed-on (Ok x) f by = absurd by
+handed-on (Err e) f by = ap Err by
 
 module _ (a b : Meaning) (la : Lawful a) {s : List ℕ} (st : State (a .size) s) (t key iv : List ℕ) (room : Roomy key iv) where
-  no-origin : ((k i : List ℕ) → BothReach a b k i s t → ⊥) → Named (pair a b) 0 (s ++ t) key iv (Err NoOrigin) key iv
-  no-origin none = (room, λ k i r. none k i (apart-at a b la st r), refl, refl)
+  no-origin : (r : Result (ℕ × ℕ) OriginFault) (f : OriginFault) → r ≡ Err f → f ≡ NoOrigin → ((k i : List ℕ) → BothReach a b k i s t → ⊥) → Named (pair a b) 0 (s ++ t) key iv r key iv
+  no-origin r f e e′ none =
+      subst (λ x. Named (pair a b) 0 (s ++ t) key iv x key iv) (sym (e ∙ ap Err e′)) (room, λ k i reach. none k i (apart-at a b la st reach), refl, refl)
 
-  pub first-none : (f : OriginFault) (x y x′ y′ : List ℕ) → Roomy x y → Named a 0 s x y (Err f) x′ y′ → Named (pair a b) 0 (s ++ t) key iv (Err f) key iv
-  first-none f x y x′ y′ own named =
-      let none = none-found a s x y x′ y′ f own named in
-      subst (λ g. Named (pair a b) 0 (s ++ t) key iv (Err g) key iv) (sym (none .0)) (no-origin (λ k i r. none .1 _ _ (r .first)))
+  pub first-none : (r : Result (ℕ × ℕ) OriginFault) (f : OriginFault) → r ≡ Err f → (x y : List ℕ) → Named a 0 s lent lent (Err f) x y → Named (pair a b) 0 (s ++ t) key iv r key iv
+  first-none r f e x y named = let none = none-found a s x y f named in no-origin r f e (none .0) (λ k i both. none .1 _ _ (both .first))
 
-  pub second-none : (f : OriginFault) (x y x′ y′ : List ℕ) → Roomy x y → Named b 0 t x y (Err f) x′ y′ → Named (pair a b) 0 (s ++ t) key iv (Err f) key iv
-  second-none f x y x′ y′ own named =
-      let none = none-found b t x y x′ y′ f own named in
-      subst (λ g. Named (pair a b) 0 (s ++ t) key iv (Err g) key iv) (sym (none .0)) (no-origin (λ k i r. none .1 _ _ (r .second)))
+  pub second-none : (r : Result (ℕ × ℕ) OriginFault) (f : OriginFault) → r ≡ Err f → (x y : List ℕ) → Named b 0 t lent lent (Err f) x y → Named (pair a b) 0 (s ++ t) key iv r key iv
+  second-none r f e x y named = let none = none-found b t x y f named in no-origin r f e (none .0) (λ k i both. none .1 _ _ (both .second))
 
   module _ (lb : Lawful b) {k l i j : ℕ} {first-key second-key first-iv second-iv : List ℕ} (one : Found a s k i first-key first-iv) (two : Found b t l j second-key second-iv) where
     pub too-long : (254 < k + l) ⊎ (254 < i + j) → Named (pair a b) 0 (s ++ t) key iv (Err NoOrigin) key iv
-    too-long long = no-origin (λ x y r.
-        let first = la .load-one (r .first) (one .reaches) in
-        let second = lb .load-one (r .second) (two .reaches) in
+    too-long long = no-origin (Err NoOrigin) NoOrigin refl refl (λ x y both.
+        let first = la .load-one (both .first) (one .reaches) in
+        let second = lb .load-one (both .second) (two .reaches) in
         ⊎-elim
-        (λ lt. omega (arith, r .key-parts .short, ap length (first .0), ap length (second .0), one .key-length, two .key-length))
-        (λ lt. omega (arith, r .iv-parts .short, ap length (first .1), ap length (second .1), one .iv-length, two .iv-length))
+        (λ lt. omega (arith, both .key-parts .short, ap length (first .0), ap length (second .0), one .key-length, two .key-length))
+        (λ lt. omega (arith, both .iv-parts .short, ap length (first .1), ap length (second .1), one .iv-length, two .iv-length))
         long)
 
     pub both-named : (n n′ : ℕ) (key′ iv′ : List ℕ) → k + l ≤ 254 → i + j ≤ 254 → n ≡ length (joined first-key second-key) → n′ ≡ length (joined first-iv second-iv)
