@@ -6,7 +6,7 @@ use mathlib.Core.Logic.{_⊎_, ⊎-elim}
 use Prim.Native.Nat.{ℕ, _+_, _-_, _<_, _≤_}
 use native.Mathlib.Omega.{arith}
 use lib.ListN.{length, take, drop, replicate, length-append}
-use Rattle.std.proofs.shelf.Lists.{take-at, replicate-append-replicate}
+use Rattle.std.proofs.shelf.Lists.{take-at, length-take-le, replicate-append-replicate}
 use Rattle.std.specs.Results.{isErr, ErrBy}
 use Rattle.std.specs.declared.result.Result.{Result}
 use Rattle.std.specs.declared.result.Result.the-variants.{Ok, Err}
@@ -15,6 +15,8 @@ use Rattle.generator.specs.declared.OriginFault.{OriginFault}
 use Rattle.generator.specs.declared.OriginFault.the-variants.{ShortBuffer, NoOrigin}
 use Rattle.generator.specs.Meaning.{Meaning, Lawful, Reaches, State, zeros}
 use Rattle.generator.specs.Calls.{Loaded, Named, AtFront, Roomy}
+use Rattle.layers.specs.declared.origins.Origin.{Origin}
+use Rattle.layers.specs.Origins.{Found, Names}
 use Rattle.layers.specs.Pair.{joined, pair, BothLoaded}
 use Rattle.layers.proofs.PairParts.{Parted, BothReach, apart-at, together}
 
@@ -28,40 +30,30 @@ refused a b key iv r s t after p err e = go (pair a b .load key iv) refl
     go (Ok u) q = let told = rw (q, BothLoaded) at p in let z : _≡_ {A = ℕ} 0 1 = cc in absurd (omega arith)
     go (Err f) q = let told = rw (q, BothLoaded) at p in rw (q, Loaded) (told, e)
 
--- a key and an IV of these lengths, which reach a state at once
-pub record Found (m : Meaning) (s : List ℕ) (k i : ℕ) (key iv : List ℕ) : Type 0 where
-  pub key-short : k ≤ 255
-  pub iv-short : i ≤ 255
-  pub key-length : length key ≡ k
-  pub iv-length : length iv ≡ i
-  pub reaches : Reaches m key iv 0 s
+reaches-by : {m : Meaning} {x y x′ y′ s : List ℕ} → x ≡ x′ → y ≡ y′ → Reaches m x′ y′ 0 s → Reaches m x y 0 s
+reaches-by {m} {x} {y} {x′} {y′} {s} e e′ r = subst (λ l. Reaches m l y 0 s) (sym e) (subst (λ l. Reaches m x′ l 0 s) (sym e′) r)
 
 -- the buffers that a member is lent
-abbrev pub lent : List ℕ
+abbrev lent : List ℕ
 lent = replicate 255 0
 
--- what a member wrote to the front of them, as parts of them
-pub found : {m : Meaning} → Lawful m → (s : List ℕ) (k i : ℕ) (key iv : List ℕ) → Named m 0 s lent lent (Ok (k, i)) key iv → Found m s k i (take (k - 0) key) (take (i - 0) iv)
-found {m} lawful s k i key iv named =
+pub found : {m : Meaning} → Lawful m → (s : List ℕ) (o : Origin) → Named m 0 s lent lent (Ok (o .«key_len», o .«iv_len»)) (o .key) (o .iv) → Found m s o
+found {m} lawful s o named =
     let own-key = named .1 .0 in
     let own-iv = named .1 .1 in
-    let short = lawful .load-short (named .1 .2) in
-    let count : k ≡ length own-key = ap (λ p. p .0) (named .1 .3) in
-    let count′ : i ≡ length own-iv = ap (λ p. p .1) (named .1 .3) in
-    let is : take (k - 0) key ≡ own-key = ap (take (k - 0)) (named .1 .4) ∙ take-at own-key _ (k - 0) (omega arith) in
-    let is′ : take (i - 0) iv ≡ own-iv = ap (take (i - 0)) (named .1 .5) ∙ take-at own-iv _ (i - 0) (omega arith) in
+    let count : length own-key ≡ o .«key_len» = sym (ap (λ p. p .0) (named .1 .3)) in
+    let count′ : length own-iv ≡ o .«iv_len» = sym (ap (λ p. p .1) (named .1 .3)) in
+    let is = ap (take (o .«key_len»)) (named .1 .4) ∙ take-at own-key _ (o .«key_len») count in
+    let is′ = ap (take (o .«iv_len»)) (named .1 .5) ∙ take-at own-iv _ (o .«iv_len») count′ in
     record {
-      key-short = omega (arith, short .0);
-      iv-short = omega (arith, short .1);
-      key-length = ap length is ∙ sym count;
-      iv-length = ap length is′ ∙ sym count′;
-      reaches = subst (λ x. Reaches m x (take (i - 0) iv) 0 s) (sym is) (subst (λ x. Reaches m own-key x 0 s) (sym is′) (named .1 .2));
+      key-within = rw (named .1 .4) (simp length-append (omega arith));
+      iv-within = rw (named .1 .5) (simp length-append (omega arith));
+      reaches = reaches-by is is′ (named .1 .2);
     }
 
--- a member refuses only where it has no key and IV, since the buffers are long enough
-none-found : (m : Meaning) (s key iv : List ℕ) (f : OriginFault) → Named m 0 s lent lent (Err f) key iv → (f ≡ NoOrigin) × ((k i : List ℕ) → Reaches m k i 0 s → ⊥)
-none-found m s key iv NoOrigin named = (refl, named .1)
-none-found m s key iv ShortBuffer named = absurd (⊎-elim (λ lt. omega arith) (λ lt. omega arith) (named .0))
+-- a part from the front on, as a slice has it
+pub part : (n : ℕ) (xs : List ℕ) → take (n - 0) xs ≡ take n xs
+part n xs = ap (λ k. take k xs) (let same : n - 0 ≡ n = omega arith in same)
 
 -- the fault that a `?` hands on
 pub handed-on : {X : Type 0} (r : Result X OriginFault) (f : OriginFault) → ErrBy r (λ e. e ≡ f) → r ≡ Err f
@@ -73,31 +65,46 @@ module _ (a b : Meaning) (la : Lawful a) {s : List ℕ} (st : State (a .size) s)
   no-origin r f e e′ none =
       subst (λ x. Named (pair a b) 0 (s ++ t) key iv x key iv) (sym (e ∙ ap Err e′)) (room, λ k i reach. none k i (apart-at a b la st reach), refl, refl)
 
-  pub first-none : (r : Result (ℕ × ℕ) OriginFault) (f : OriginFault) → r ≡ Err f → (x y : List ℕ) → Named a 0 s lent lent (Err f) x y → Named (pair a b) 0 (s ++ t) key iv r key iv
-  first-none r f e x y named = let none = none-found a s x y f named in no-origin r f e (none .0) (λ k i both. none .1 _ _ (both .first))
+  pub first-none : (r : Result (ℕ × ℕ) OriginFault) (f : OriginFault) → r ≡ Err f → Names a s (Err f) → Named (pair a b) 0 (s ++ t) key iv r key iv
+  first-none r f e none = no-origin r f e (none .0) (λ k i both. none .1 _ _ (both .first))
 
-  pub second-none : (r : Result (ℕ × ℕ) OriginFault) (f : OriginFault) → r ≡ Err f → (x y : List ℕ) → Named b 0 t lent lent (Err f) x y → Named (pair a b) 0 (s ++ t) key iv r key iv
-  second-none r f e x y named = let none = none-found b t x y f named in no-origin r f e (none .0) (λ k i both. none .1 _ _ (both .second))
+  pub second-none : (r : Result (ℕ × ℕ) OriginFault) (f : OriginFault) → r ≡ Err f → Names b t (Err f) → Named (pair a b) 0 (s ++ t) key iv r key iv
+  second-none r f e none = no-origin r f e (none .0) (λ k i both. none .1 _ _ (both .second))
 
-  module _ (lb : Lawful b) {k l i j : ℕ} {first-key second-key first-iv second-iv : List ℕ} (one : Found a s k i first-key first-iv) (two : Found b t l j second-key second-iv) where
-    pub too-long : (254 < k + l) ⊎ (254 < i + j) → Named (pair a b) 0 (s ++ t) key iv (Err NoOrigin) key iv
+  module _ (lb : Lawful b) {first second : Origin} (one : Found a s first) (two : Found b t second) where
+    first-key : length (take (first .«key_len») (first .key)) ≡ first .«key_len»
+    first-key = length-take-le _ (first .key) (one .key-within)
+
+    first-iv : length (take (first .«iv_len») (first .iv)) ≡ first .«iv_len»
+    first-iv = length-take-le _ (first .iv) (one .iv-within)
+
+    second-key : length (take (second .«key_len») (second .key)) ≡ second .«key_len»
+    second-key = length-take-le _ (second .key) (two .key-within)
+
+    second-iv : length (take (second .«iv_len») (second .iv)) ≡ second .«iv_len»
+    second-iv = length-take-le _ (second .iv) (two .iv-within)
+
+    pub too-long : (254 < first .«key_len» + second .«key_len») ⊎ (254 < first .«iv_len» + second .«iv_len») → Named (pair a b) 0 (s ++ t) key iv (Err NoOrigin) key iv
     too-long long = no-origin (Err NoOrigin) NoOrigin refl refl (λ x y both.
-        let first = la .load-one (both .first) (one .reaches) in
-        let second = lb .load-one (both .second) (two .reaches) in
+        let same = la .load-one (both .first) (one .reaches) in
+        let same′ = lb .load-one (both .second) (two .reaches) in
         ⊎-elim
-        (λ lt. omega (arith, both .key-parts .short, ap length (first .0), ap length (second .0), one .key-length, two .key-length))
-        (λ lt. omega (arith, both .iv-parts .short, ap length (first .1), ap length (second .1), one .iv-length, two .iv-length))
+        (λ lt. omega (arith, both .key-parts .short, ap length (same .0), ap length (same′ .0), first-key, second-key))
+        (λ lt. omega (arith, both .iv-parts .short, ap length (same .1), ap length (same′ .1), first-iv, second-iv))
         long)
 
-    pub both-named : (n n′ : ℕ) (key′ iv′ : List ℕ) → k + l ≤ 254 → i + j ≤ 254 → n ≡ length (joined first-key second-key) → n′ ≡ length (joined first-iv second-iv)
-        → AtFront (joined first-key second-key) key key′ → AtFront (joined first-iv second-iv) iv iv′ → Named (pair a b) 0 (s ++ t) key iv (Ok (n, n′)) key′ iv′
-    both-named n n′ key′ iv′ short short′ e e′ at at′ = (
+    -- x, y, u and v are the parts that are joined
+    pub both-named : {x y u v : List ℕ} → x ≡ take (first .«key_len») (first .key) → y ≡ take (second .«key_len») (second .key) → u ≡ take (first .«iv_len») (first .iv) → v ≡ take (second .«iv_len») (second .iv)
+        → first .«key_len» + second .«key_len» ≤ 254 → first .«iv_len» + second .«iv_len» ≤ 254
+        → (n n′ : ℕ) (key′ iv′ : List ℕ) → n ≡ length (joined x y) → n′ ≡ length (joined u v) → AtFront (joined x y) key key′ → AtFront (joined u v) iv iv′
+        → Named (pair a b) 0 (s ++ t) key iv (Ok (n, n′)) key′ iv′
+    both-named {x} {y} {u} {v} ex ey eu ev short short′ n n′ key′ iv′ e e′ at at′ = (
       room,
       (
-        joined first-key second-key,
-        joined first-iv second-iv,
-        together a b (omega (arith, one .key-length, two .key-length)) (omega (arith, one .iv-length, two .iv-length)) (one .reaches) (two .reaches),
-        ap (λ x. (x, n′)) e ∙ ap (λ x. (length (joined first-key second-key), x)) e′,
+        joined x y,
+        joined u v,
+        together a b (omega (arith, ap length ex ∙ first-key, ap length ey ∙ second-key)) (omega (arith, ap length eu ∙ first-iv, ap length ev ∙ second-iv)) (reaches-by ex eu (one .reaches)) (reaches-by ey ev (two .reaches)),
+        ap (λ l. (l, n′)) e ∙ ap (λ l. (length (joined x y), l)) e′,
         at,
         at′,
       ),

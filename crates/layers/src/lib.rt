@@ -2,6 +2,7 @@
 ghost use Rattle.layers.specs.Piles.{Piles-stand};
 
 mod every_other;
+mod origins;
 mod pair;
 mod parts;
 

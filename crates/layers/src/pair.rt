@@ -1,6 +1,7 @@
 ghost use mathlib.Core.Path.{_≡_};
 ghost use mathlib.Core.List.{_++_};
 ghost use Rattle.layers.specs.Pair.{pair, BothLoaded};
+use crate::origins::origin_of;
 use crate::parts::at_place;
 use crate::parts::join;
 use crate::parts::split;
@@ -83,20 +84,22 @@ pub impl<A: Generator, B: Generator> Generator for Pair<A, B> as PairGenerator {
         self.second.clear();
     }
 
-    // The members write to buffers of this call, since a refusal of the second may follow what the first named.
+    // Nothing is written before both are named, since a refusal leaves the buffers as they are.
     fn origin(&mut self, key: &mut [u8], iv: &mut [u8]) -> Result<(usize, usize), OriginFault> {
         if key.len() < 255 || iv.len() < 255 {
             return Err(OriginFault::ShortBuffer);
         }
-        let (mut first_key, mut first_iv) = ([0u8; 255], [0u8; 255]);
-        let (mut second_key, mut second_iv) = ([0u8; 255], [0u8; 255]);
-        let (k, i) = self.first.origin(&mut first_key, &mut first_iv)?;
-        let (l, j) = self.second.origin(&mut second_key, &mut second_iv)?;
-        if k + l > 254 || i + j > 254 {
+        let first = origin_of(&mut self.first)?;
+        let second = origin_of(&mut self.second)?;
+        if first.key_len + second.key_len > 254 || first.iv_len + second.iv_len > 254 {
             return Err(OriginFault::NoOrigin);
         }
-        let key_count = join(key, &first_key[0..k], &second_key[0..l]);
-        let iv_count = join(iv, &first_iv[0..i], &second_iv[0..j]);
-        Ok((key_count, iv_count))
+        let key_len = join(
+            key,
+            &first.key[0..first.key_len],
+            &second.key[0..second.key_len],
+        );
+        let iv_len = join(iv, &first.iv[0..first.iv_len], &second.iv[0..second.iv_len]);
+        Ok((key_len, iv_len))
     }
 }
