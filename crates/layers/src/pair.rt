@@ -59,8 +59,7 @@ pub impl<A: Generator, B: Generator> Generator for Pair<A, B> as PairGenerator {
     fn load(&mut self, key: &[u8], iv: &[u8]) -> Result<(), Fault> {
         let loaded = load_both(&mut self.first, &mut self.second, key, iv);
         if loaded.is_err() {
-            self.first.clear();
-            self.second.clear();
+            self.clear();
         }
         loaded
     }
