@@ -12,8 +12,6 @@ pub use pair::Pair;
 pub use pair::PairGenerator;
 
 // On its contract stands what holds of every pile of layers.
-pub fn piles_stand() -> u8
+pub fn piles_stand()
     ensures { λ _. ⌜ Piles-stand ⌝ }
-{
-    0
-}
+{}
