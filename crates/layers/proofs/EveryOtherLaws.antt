@@ -1,5 +1,5 @@
 -- Every other word of a lawful generator is a lawful generator. Assumes nothing.
-use mathlib.Core.Path.{_≡_, refl, sym, ap, subst, _∙_}
+use mathlib.Core.Path.{_≡_, refl, ap, _∙_}
 use mathlib.Core.List.{List}
 use Prim.Native.Nat.{ℕ, zero, suc, _*_}
 use native.Mathlib.Omega.{arith}
@@ -7,7 +7,7 @@ use Rattle.std.specs.declared.result.Result.{Result}
 use Rattle.std.specs.declared.result.Result.the-variants.{Ok, Err}
 use Rattle.generator.specs.declared.OriginFault.{OriginFault}
 use Rattle.generator.specs.declared.OriginFault.the-variants.{ShortBuffer, NoOrigin}
-use Rattle.generator.specs.Meaning.{Meaning, Lawful, Reaches, State, times}
+use Rattle.generator.specs.Meaning.{Meaning, Lawful, Reaches, times}
 use Rattle.generator.specs.Calls.{Named}
 use Rattle.layers.specs.EveryOther.{every-other}
 use Rattle.layers.specs.Piles.{stream}

@@ -1,24 +1,24 @@
 -- What loading and origin of a pair answer, from what its members answer. Assumes nothing.
 use mathlib.Core.Path.{_≡_, refl, sym, ap, subst, _∙_}
 use mathlib.Core.Bool.{true}
-use mathlib.Core.List.{List, [], _∷_, _++_}
+use mathlib.Core.List.{List, _++_}
 use mathlib.Core.Logic.{_⊎_, ⊎-elim}
 use Prim.Native.Nat.{ℕ, _+_, _-_, _<_, _≤_}
 use native.Mathlib.Omega.{arith}
-use lib.ListN.{length, take, drop, replicate, length-append}
+use lib.ListN.{length, take, replicate, length-append}
 use Rattle.std.proofs.shelf.Lists.{take-at, length-take-le, replicate-append-replicate}
 use Rattle.std.specs.Results.{isErr, ErrBy}
 use Rattle.std.specs.declared.result.Result.{Result}
 use Rattle.std.specs.declared.result.Result.the-variants.{Ok, Err}
 use Rattle.generator.specs.declared.Fault.{Fault}
 use Rattle.generator.specs.declared.OriginFault.{OriginFault}
-use Rattle.generator.specs.declared.OriginFault.the-variants.{ShortBuffer, NoOrigin}
+use Rattle.generator.specs.declared.OriginFault.the-variants.{NoOrigin}
 use Rattle.generator.specs.Meaning.{Meaning, Lawful, Reaches, State, zeros}
 use Rattle.generator.specs.Calls.{Loaded, Named, AtFront, Roomy}
 use Rattle.layers.specs.declared.origins.Origin.{Origin}
 use Rattle.layers.specs.Origins.{Found, Names}
 use Rattle.layers.specs.Pair.{joined, pair, BothLoaded}
-use Rattle.layers.proofs.PairParts.{Parted, BothReach, apart-at, together}
+use Rattle.layers.proofs.PairParts.{BothReach, apart-at, together}
 
 pub both-cleared : (a b : Meaning) (s t : List ℕ) → s ≡ zeros a → t ≡ zeros b → s ++ t ≡ zeros (pair a b)
 both-cleared a b s t e e′ = ap (λ x. x ++ t) e ∙ ap (λ x. zeros a ++ x) e′ ∙ replicate-append-replicate (a .size) (b .size) 0
@@ -37,8 +37,9 @@ reaches-by {m} {x} {y} {x′} {y′} {s} e e′ r = subst (λ l. Reaches m l y 0
 abbrev lent : List ℕ
 lent = replicate 255 0
 
-pub found : {m : Meaning} → Lawful m → (s : List ℕ) (o : Origin) → Named m 0 s lent lent (Ok (o .«key_len», o .«iv_len»)) (o .key) (o .iv) → Found m s o
-found {m} lawful s o named =
+-- what a member wrote to the front of them
+pub found : (m : Meaning) (s : List ℕ) (o : Origin) → Named m 0 s lent lent (Ok (o .«key_len», o .«iv_len»)) (o .key) (o .iv) → Found m s o
+found m s o named =
     let own-key = named .1 .0 in
     let own-iv = named .1 .1 in
     let count : length own-key ≡ o .«key_len» = sym (ap (λ p. p .0) (named .1 .3)) in

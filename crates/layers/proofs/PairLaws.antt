@@ -1,7 +1,7 @@
 -- A pair of lawful generators is a lawful generator. Assumes nothing.
 use mathlib.Core.Path.{_≡_, refl, sym, ap, subst, _∙_}
-use mathlib.Core.List.{List, [], _∷_, _++_}
-use Prim.Native.Nat.{ℕ, zero, suc, _+_, _<_, _≤_, _^_}
+use mathlib.Core.List.{List, _++_}
+use Prim.Native.Nat.{ℕ, zero, suc, _+_, _<_, _≤_}
 use native.Mathlib.Omega.{arith}
 use lib.Bits.{bitXor, xor-lt}
 use lib.ListN.{length, take, drop, length-append}
@@ -16,7 +16,7 @@ use Rattle.generator.specs.Refusals.{member}
 use Rattle.generator.specs.Meaning.{Meaning, Lawful, Reaches, State, times}
 use Rattle.layers.specs.Pair.{joined, parts, at-place, both-loads, parts-load, pair}
 use Rattle.layers.specs.Piles.{stream}
-use Rattle.layers.proofs.PairParts.{first-state, second-state, joined-state, at-parts, Parted, BothReach, apart, apart-at}
+use Rattle.layers.proofs.PairParts.{first-state, second-state, joined-state, at-parts, Parted, apart, apart-at}
 
 -- steps of both parts are undone by steps of both parts
 undone : (n : ℕ) (f g f′ g′ : List ℕ → List ℕ) (s : List ℕ) → length (f (take n s)) ≡ n → g (f (take n s)) ≡ take n s → g′ (f′ (drop n s)) ≡ drop n s

@@ -6,7 +6,7 @@ use lib.ListN.{length, take}
 use Rattle.std.specs.declared.result.Result.{Result}
 use Rattle.std.specs.declared.result.Result.the-variants.{Ok, Err}
 use Rattle.generator.specs.declared.OriginFault.{OriginFault}
-use Rattle.generator.specs.declared.OriginFault.the-variants.{ShortBuffer, NoOrigin}
+use Rattle.generator.specs.declared.OriginFault.the-variants.{NoOrigin}
 use Rattle.generator.specs.Meaning.{Meaning, Reaches}
 use Rattle.layers.specs.declared.origins.Origin.{Origin}
 

@@ -1,7 +1,5 @@
-use mathlib.Core.Path.{_≡_, ap, _∙_}
 use native.Mathlib.Omega.{arith}
-use lib.ListN.{length, length-append, set}
-use borrow.Rule.Slice.PartMut.{putMid}
+use lib.ListN.{length, length-append}
 use Rattle.layers.proofs.Written.{written}
 use Rattle.layers.proofs.parts.join.Needs as need
 
