@@ -1,0 +1,6 @@
+pub mod EveryOtherLaws
+pub mod PairParts
+pub mod PairLaws
+pub mod PairCalls
+pub mod PilesStand
+pub mod Written

@@ -1,0 +1,4 @@
+pub mod Pair
+pub mod EveryOther
+pub mod Origins
+pub mod Piles
