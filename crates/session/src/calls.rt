@@ -1,8 +1,11 @@
 // The calls of a session.
 ghost use mathlib.Core.Path.{_≡_};
+ghost use mathlib.Core.Bool.{cond};
 ghost use lib.ListN.{length, replicate};
+ghost use Rattle.std.specs.declared.result.Result.the-variants.{Ok, Err};
+ghost use Rattle.session.specs.declared.refusals.Refusal.the-variants.{NotOpen};
 ghost use Rattle.session.specs.View.{view, shut};
-ghost use Rattle.session.specs.Calls.{Opened, Applied, Skipped, SteppedBack, PositionOf, OriginOf, Closed};
+ghost use Rattle.session.specs.Calls.{closed, Opened, Applied, Skipped, SteppedBack, PositionOf, OriginOf, Closed};
 use crate::join::join_all;
 use crate::refusals::Refusal;
 use crate::refusals::RefusalFromFault;
@@ -28,6 +31,15 @@ impl<G: Generator> Session<G> {
             position: 0,
             limit: 0,
         }
+    }
+
+    fn require_open(&self) -> Result<(), Refusal>
+        ensures { λ r. ⌜ r ≡ cond (closed (view (G·Generator .state) (now (self .entry)))) (Err NotOpen) (Ok tt) ⌝ }
+    {
+        if self.limit == 0 {
+            return Err(Refusal::NotOpen);
+        }
+        Ok(())
     }
 
     // Loads a key and an IV, with a limit in words. The key's buffer holds zeros after every call.
@@ -56,9 +68,7 @@ impl<G: Generator> Session<G> {
     ) -> Result<(), Refusal>
         ensures { λ r. ⌜ Applied (G·Generator .meaning) (view (G·Generator .state) (now (self .entry))) start count (now (buffer .entry)) r (view (G·Generator .state) (now (self .exit))) (now (buffer .exit)) ⌝ }
     {
-        if self.limit == 0 {
-            return Err(Refusal::NotOpen);
-        }
+        self.require_open()?;
         let len = buffer.len();
         if start > len || count > len - start {
             return Err(Refusal::PastBuffer);
@@ -80,9 +90,7 @@ impl<G: Generator> Session<G> {
     pub fn skip(&mut self, n: u64) -> Result<(), Refusal>
         ensures { λ r. ⌜ Skipped (G·Generator .meaning) (view (G·Generator .state) (now (self .entry))) n r (view (G·Generator .state) (now (self .exit))) ⌝ }
     {
-        if self.limit == 0 {
-            return Err(Refusal::NotOpen);
-        }
+        self.require_open()?;
         if n > self.limit - self.position {
             return Err(Refusal::PastLimit);
         }
@@ -96,9 +104,7 @@ impl<G: Generator> Session<G> {
     pub fn step_back(&mut self, n: u64) -> Result<(), Refusal>
         ensures { λ r. ⌜ SteppedBack (G·Generator .meaning) (view (G·Generator .state) (now (self .entry))) n r (view (G·Generator .state) (now (self .exit))) ⌝ }
     {
-        if self.limit == 0 {
-            return Err(Refusal::NotOpen);
-        }
+        self.require_open()?;
         if n > self.position {
             return Err(Refusal::BeforeStart);
         }
@@ -112,9 +118,7 @@ impl<G: Generator> Session<G> {
     pub fn position(&self) -> Result<u64, Refusal>
         ensures { λ r. ⌜ PositionOf (view (G·Generator .state) (now (self .entry))) r ⌝ }
     {
-        if self.limit == 0 {
-            return Err(Refusal::NotOpen);
-        }
+        self.require_open()?;
         Ok(self.position)
     }
 
@@ -123,9 +127,7 @@ impl<G: Generator> Session<G> {
         ensures named { λ r. ⌜ OriginOf (G·Generator .meaning) (view (G·Generator .state) (now (self .entry))) (now (key .entry)) (now (iv .entry)) r (now (key .exit)) (now (iv .exit)) ⌝ }
         ensures same { λ _. ⌜ view (G·Generator .state) (now (self .exit)) ≡ view (G·Generator .state) (now (self .entry)) ⌝ }
     {
-        if self.limit == 0 {
-            return Err(Refusal::NotOpen);
-        }
+        self.require_open()?;
         let words = self.position / 4;
         Ok(origin_before(&mut self.generator, words, key, iv)?)
     }
@@ -134,9 +136,7 @@ impl<G: Generator> Session<G> {
     pub fn close(&mut self) -> Result<(), Refusal>
         ensures { λ r. ⌜ Closed (G·Generator .meaning) (view (G·Generator .state) (now (self .entry))) r (view (G·Generator .state) (now (self .exit))) ⌝ }
     {
-        if self.limit == 0 {
-            return Err(Refusal::NotOpen);
-        }
+        self.require_open()?;
         self.generator.clear();
         self.position = 0;
         self.limit = 0;
