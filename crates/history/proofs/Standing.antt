@@ -37,10 +37,11 @@ key-byte m s i = byte-of (m .word (times (i / 4) (m .next) s)) (i % 4)
 -- one opening, further on or back
 record Moves (m : Meaning) (v w : View) : Type 0 where
   limits : w .limit ≡ v .limit
+  bounded : v .position ≤ v .limit → w .position ≤ w .limit
   follows : {s : List ℕ} → State (m .size) s → At m s v → At m s w
 
 stays : {m : Meaning} {v w : View} → w ≡ v → Moves m v w
-stays {m} {v} e = subst (Moves m v) (sym e) (record { limits = refl; follows = λ st at. at })
+stays {m} {v} e = subst (Moves m v) (sym e) (record { limits = refl; bounded = λ h. h; follows = λ st at. at })
 
 ahead-at : (m : Meaning) (v : View) (n : ℕ) (s : List ℕ) → At m s v → times ((v .position + n) / 4) (m .next) s ≡ ahead m v n
 ahead-at m v n s at =
@@ -48,12 +49,17 @@ ahead-at m v n s at =
     let parts : (v .position + n) / 4 ≡ a + v .position / 4 = omega arith in
     ap (λ k. times k (m .next) s) parts ∙ times-add a (v .position / 4) (m .next) s ∙ ap (times a (m .next)) at
 
-goes-ahead : (m : Meaning) (v w : View) (n : ℕ) → w ≡ moved v (ahead m v n) (v .position + n) → Moves m v w
-goes-ahead m v w n e = subst (Moves m v) (sym e) (record { limits = refl; follows = λ {s} st at. ahead-at m v n s at })
+-- n bytes on, within the limit
+abbrev Ahead : Meaning → View → View → ℕ → Type 0
+Ahead m v w n = (w ≡ moved v (ahead m v n) (v .position + n)) × (v .position + n ≤ v .limit)
+
+goes-ahead : (m : Meaning) (v w : View) (n : ℕ) → Ahead m v w n → Moves m v w
+goes-ahead m v w n (e, room) = subst (Moves m v) (sym e) (record { limits = refl; bounded = λ _. room; follows = λ {s} st at. ahead-at m v n s at })
 
 goes-back : {m : Meaning} (lawful : Lawful m) (v w : View) (n : ℕ) → w ≡ moved v (behind m v n) (v .position - n) → Moves m v w
 goes-back {m} lawful v w n e = subst (Moves m v) (sym e) (record {
   limits = refl;
+  bounded = λ h. omega arith;
   follows = λ {s} st at.
       let k = v .position / 4 - (v .position - n) / 4 in
       let parts : (v .position - n) / 4 + k ≡ v .position / 4 = omega arith in
@@ -69,7 +75,9 @@ pub record Kept (m : Meaning) (o : Opening) (h : List Event) (v : View) (msg : L
   pub start : List ℕ
   pub loaded : Reaches m (o .key) (o .iv) 0 start
   pub here : At m start v
-  pub active : 0 < v .limit
+  pub limits : v .limit ≡ 4 * o .limit
+  pub active : 0 < o .limit
+  pub within : v .position ≤ v .limit
   pub gone : Balanced h (v .position)
   pub long : length msg ≡ length (o .message)
   pub bytes : (i : ℕ) → strays i h ≡ 0 → getD msg i 0 ≡ times (covers i h) (λ x. bitXor x (key-byte m start i)) (getD (o .message) i 0)
@@ -81,21 +89,23 @@ pub data Standing (m : Meaning) : Option Opening → List Event → View → Lis
 still : {m : Meaning} {h : List Event} {msg : List ℕ} {w : View} → Balanced h 0 → w ≡ shut m → Standing m None h w msg
 still {m} {h} {msg} none e = subst (λ v. Standing m None h v msg) (sym e) (idle none)
 
-abbrev opening : List ℕ → List ℕ → List ℕ → Opening
-opening key iv msg = record { key = key; iv = iv; message = msg }
+abbrev opening : List ℕ → List ℕ → ℕ → List ℕ → Opening
+opening key iv limit msg = record { key = key; iv = iv; limit = limit; message = msg }
 
 -- an accepted opening, whatever stood before
-opens : (m : Meaning) (v w : View) (key iv msg : List ℕ) (limit : ℕ) (h : List Event) → Bytes key → Bytes iv → Opened m v key iv limit (Ok tt) w → Standing m (Some (opening key iv msg)) (opened (opening key iv msg) ∷ h) w msg
+opens : (m : Meaning) (v w : View) (key iv msg : List ℕ) (limit : ℕ) (h : List Event) → Bytes key → Bytes iv → Opened m v key iv limit (Ok tt) w → Standing m (Some (opening key iv limit msg)) (opened (opening key iv limit msg) ∷ h) w msg
 opens m v w key iv msg limit h kb ib p = go (m .load key iv) refl
   where
-    go : (l : Result (List ℕ) Fault) → m .load key iv ≡ l → Standing m (Some (opening key iv msg)) (opened (opening key iv msg) ∷ h) w msg
+    go : (l : Result (List ℕ) Fault) → m .load key iv ≡ l → Standing m (Some (opening key iv limit msg)) (opened (opening key iv limit msg) ∷ h) w msg
     go (Ok s) e =
         let at : (w ≡ record { state = s; position = 0; limit = 4 * limit }) × (0 < limit) = grind (arith, tells) in
-        subst (λ u. Standing m (Some (opening key iv msg)) (opened (opening key iv msg) ∷ h) u msg) (sym (at .0)) (busy (record {
+        subst (λ u. Standing m (Some (opening key iv limit msg)) (opened (opening key iv limit msg) ∷ h) u msg) (sym (at .0)) (busy (record {
           start = s;
           loaded = record { key-bytes = kb; iv-bytes = ib; start = s; loads = e; arrives = refl };
           here = refl;
-          active = omega (arith, at .1);
+          limits = refl;
+          active = at .1;
+          within = omega arith;
           gone = refl;
           long = refl;
           bytes = λ i _. refl;
@@ -106,17 +116,27 @@ opens m v w key iv msg limit h kb ib p = go (m .load key iv) refl
 on-balance : {s : List ℕ} (h : List Event) (v w : View) (n : ℕ) → w ≡ moved v s (v .position + n) → Balanced h (v .position) → w .position + gone-back h ≡ gone-on h + n
 on-balance h v w n e balanced = let at : w .position ≡ v .position + n = ap (λ u. u .position) e in omega arith
 
--- any call but an opening, a piece and a close
-goes-on : {m : Meaning} (lawful : Lawful m) {o : Opening} {h : List Event} {v w : View} {msg : List ℕ} (e : Event) → ((i : ℕ) → (covers i (e ∷ h) ≡ covers i h) × (strays i (e ∷ h) ≡ strays i h)) → Balanced (e ∷ h) (w .position) → Moves m v w → Kept m o h v msg → Standing m (Some o) (e ∷ h) w msg
-goes-on {m} lawful {o} {h} {msg = msg} e covered gone move k = busy (record {
+-- any call but an opening and a close: what it makes of the session, and of the message
+carries : {m : Meaning} (lawful : Lawful m) {o : Opening} {h : List Event} {v w : View} {msg : List ℕ} (e : Event) (after : List ℕ) → Balanced (e ∷ h) (w .position) → Moves m v w → length after ≡ length msg → (k : Kept m o h v msg)
+    → ((i : ℕ) → strays i (e ∷ h) ≡ 0 → getD after i 0 ≡ times (covers i (e ∷ h)) (λ x. bitXor x (key-byte m (k .start) i)) (getD (o .message) i 0))
+    → Standing m (Some o) (e ∷ h) w after
+carries lawful e after gone move long k bytes = busy (record {
   start = k .start;
   loaded = k .loaded;
   here = move .follows (lawful .load-state (k .loaded)) (k .here);
-  active = omega (arith, move .limits, k .active);
+  limits = move .limits ∙ k .limits;
+  active = k .active;
+  within = move .bounded (k .within);
   gone = gone;
-  long = k .long;
-  bytes = λ i none. k .bytes i (sym (covered i .1) ∙ none) ∙ ap (λ n. times n (λ x. bitXor x (key-byte m (k .start) i)) (getD (o .message) i 0)) (sym (covered i .0));
+  long = long ∙ k .long;
+  bytes = bytes;
 })
+
+-- a call that leaves the message as it is
+goes-on : {m : Meaning} (lawful : Lawful m) {o : Opening} {h : List Event} {v w : View} {msg : List ℕ} (e : Event) → ((i : ℕ) → (covers i (e ∷ h) ≡ covers i h) × (strays i (e ∷ h) ≡ strays i h)) → Balanced (e ∷ h) (w .position) → Moves m v w → Kept m o h v msg → Standing m (Some o) (e ∷ h) w msg
+goes-on {m} lawful {o} {msg = msg} e covered gone move k =
+    carries lawful e msg gone move refl k
+    (λ i none. k .bytes i (sym (covered i .1) ∙ none) ∙ ap (λ n. times n (λ x. bitXor x (key-byte m (k .start) i)) (getD (o .message) i 0)) (sym (covered i .0)))
 
 -- a call that changes nothing
 rests : {m : Meaning} (lawful : Lawful m) {o : Opening} {h : List Event} {v w : View} {msg : List ℕ} → w ≡ v → Kept m o h v msg → Standing m (Some o) (unchanged ∷ h) w msg
@@ -126,16 +146,10 @@ stream-is : (m : Meaning) (v : View) (s : List ℕ) → At m s v → (n i : ℕ)
 stream-is m v s at n i e =
     ap (λ t. byte-of (m .word t) ((v .position + n) % 4)) (sym (ahead-at m v n s at)) ∙ ap (key-byte m s) e
 
-one-piece : {m : Meaning} (lawful : Lawful m) {o : Opening} {h : List Event} {v w : View} {msg after : List ℕ} (count : ℕ) → w ≡ moved v (ahead m v count) (v .position + count) → Joined m v (v .position) count msg after → Kept m o h v msg → Standing m (Some o) (piece (v .position) count ∷ h) w after
-one-piece {m} lawful {o} {h} {v} {w} {msg} {after} count e join k = busy (record {
-  start = k .start;
-  loaded = k .loaded;
-  here = goes-ahead m v w count e .follows (lawful .load-state (k .loaded)) (k .here);
-  active = omega (arith, goes-ahead m v w count e .limits, k .active);
-  gone = on-balance h v w count e (k .gone);
-  long = join .same-length ∙ k .long;
-  bytes = λ i none. go i (leb (v .position) i) (ltb i (v .position + count)) refl refl none;
-})
+one-piece : {m : Meaning} (lawful : Lawful m) {o : Opening} {h : List Event} {v w : View} {msg after : List ℕ} (count : ℕ) → Ahead m v w count → Joined m v (v .position) count msg after → Kept m o h v msg → Standing m (Some o) (piece (v .position) count ∷ h) w after
+one-piece {m} lawful {o} {h} {v} {w} {msg} {after} count a join k =
+    carries lawful (piece (v .position) count) after (on-balance h v w count (a .0) (k .gone)) (goes-ahead m v w count a) (join .same-length) k
+    (λ i none. go i (leb (v .position) i) (ltb i (v .position + count)) refl refl none)
   where
     go : (i : ℕ) (a b : Bool) → leb (v .position) i ≡ a → ltb i (v .position + count) ≡ b → strays i h ≡ 0
         → getD after i 0 ≡ times (cond a (cond b 1 0) 0 + covers i h) (λ x. bitXor x (key-byte m (k .start) i)) (getD (o .message) i 0)
@@ -151,21 +165,19 @@ one-piece {m} lawful {o} {h} {v} {w} {msg} {after} count e join k = busy (record
     go i true false e e′ none = rw zero-add (join .rest i (ltb-false _ _ e′) ∙ k .bytes i none)
     go i false b e e′ none = rw zero-add (join .front i (leb-false _ _ e) ∙ k .bytes i none)
 
-one-stray : {m : Meaning} (lawful : Lawful m) {o : Opening} {h : List Event} {v w : View} {msg after : List ℕ} (start count : ℕ) → w ≡ moved v (ahead m v count) (v .position + count) → Joined m v start count msg after → Kept m o h v msg → Standing m (Some o) (stray start count ∷ h) w after
-one-stray {m} lawful {o} {h} {v} {w} {msg} {after} start count e join k = busy (record {
-  start = k .start;
-  loaded = k .loaded;
-  here = goes-ahead m v w count e .follows (lawful .load-state (k .loaded)) (k .here);
-  active = omega (arith, goes-ahead m v w count e .limits, k .active);
-  gone = on-balance h v w count e (k .gone);
-  long = join .same-length ∙ k .long;
-  bytes = λ i none. go i (leb start i) (ltb i (start + count)) refl refl none ∙ k .bytes i (omega arith);
-})
+one-stray : {m : Meaning} (lawful : Lawful m) {o : Opening} {h : List Event} {v w : View} {msg after : List ℕ} (start count : ℕ) → Ahead m v w count → Joined m v start count msg after → Kept m o h v msg → Standing m (Some o) (stray start count ∷ h) w after
+one-stray {m} lawful {o} {h} {v} {w} {msg} {after} start count a join k =
+    carries lawful (stray start count) after (on-balance h v w count (a .0) (k .gone)) (goes-ahead m v w count a) (join .same-length) k
+    (λ i none. go i (leb start i) (ltb i (start + count)) refl refl none ∙ k .bytes i (omega arith))
   where
     go : (i : ℕ) (a b : Bool) → leb start i ≡ a → ltb i (start + count) ≡ b → cond a (cond b 1 0) 0 + strays i h ≡ 0 → getD after i 0 ≡ getD msg i 0
     go i true true e e′ none = absurd (omega arith)
     go i true false e e′ none = join .rest i (ltb-false _ _ e′)
     go i false b e e′ none = join .front i (leb-false _ _ e)
+
+-- keystream passed over, on no message
+onwards : {m : Meaning} (lawful : Lawful m) {o : Opening} {h : List Event} {v w : View} {msg : List ℕ} (n : ℕ) → Ahead m v w n → Kept m o h v msg → Standing m (Some o) (onward n ∷ h) w msg
+onwards {m} lawful {h = h} {v} {w} n a k = goes-on lawful (onward n) (λ i. (refl, refl)) (on-balance h v w n (a .0) (k .gone)) (goes-ahead m v w n a) k
 
 -- the opening that lasts after one event more
 abbrev turned : Event → Option Opening → Option Opening
@@ -204,25 +216,21 @@ call-idle z (close-refused e p) = still z (p .1)
 
 call-busy : {m : Meaning} (lawful : Lawful m) {o : Opening} {h : List Event} {v w : View} {msg msg′ : List ℕ} {e : Event} → Kept m o h v msg → Call m v msg e w msg′ → Standing m (turned e (Some o)) (e ∷ h) w msg′
 call-busy {m} lawful {h = h} {v = v} {w = w} {msg = msg} k (open-accepted key iv limit kb ib p) = opens m v w key iv msg limit h kb ib p
-call-busy lawful k (open-refused key iv limit e p) = let active = k .active in rests lawful (grind (arith, tells)) k
+call-busy lawful {v = v} k (open-refused key iv limit e p) = let active : 0 < v .limit = omega (arith, k .limits, k .active) in rests lawful (grind (arith, tells)) k
 call-busy {m} lawful {v = v} {w = w} {msg = msg} {msg′ = after} k (apply-piece count p) =
-    let a : (w ≡ moved v (ahead m v count) (v .position + count)) × Joined m v (v .position) count msg after = grind (arith, tells) in
+    let a : Ahead m v w count × Joined m v (v .position) count msg after = grind (arith, tells) in
     one-piece lawful count (a .0) (a .1) k
 call-busy {m} lawful {v = v} {w = w} {msg = msg} {msg′ = after} k (apply-stray start count off p) =
-    let a : (w ≡ moved v (ahead m v count) (v .position + count)) × Joined m v start count msg after = grind (arith, tells) in
+    let a : Ahead m v w count × Joined m v start count msg after = grind (arith, tells) in
     one-stray lawful start count (a .0) (a .1) k
 call-busy {m} lawful {o = o} {h = h} {v = v} {w = w} {msg = msg} {msg′ = after} k (apply-refused start count e p) =
     let a : (w ≡ v) × (after ≡ msg) = grind (arith, tells) in
     subst (Standing m (Some o) (unchanged ∷ h) w) (sym (a .1)) (rests lawful (a .0) k)
-call-busy {m} lawful {h = h} {v = v} {w = w} k (elsewhere-accepted start count buffer after p) =
-    let a : w ≡ moved v (ahead m v count) (v .position + count) = grind (arith, tells) in
-    goes-on lawful (onward count) (λ i. (refl, refl)) (on-balance h v w count a (k .gone)) (goes-ahead m v w count a) k
+call-busy {m} lawful {v = v} {w = w} k (elsewhere-accepted start count buffer after p) = let a : Ahead m v w count = grind (arith, tells) in onwards lawful count a k
 call-busy lawful k (elsewhere-refused start count buffer after e p) = rests lawful (grind (arith, tells)) k
-call-busy {m} lawful {h = h} {v = v} {w = w} k (skip-accepted n p) =
-    let a : w ≡ moved v (ahead m v n) (v .position + n) = grind (arith, tells) in
-    goes-on lawful (onward n) (λ i. (refl, refl)) (on-balance h v w n a (k .gone)) (goes-ahead m v w n a) k
+call-busy {m} lawful {v = v} {w = w} k (skip-accepted n p) = let a : Ahead m v w n = grind (arith, tells) in onwards lawful n a k
 call-busy lawful k (skip-refused n e p) = rests lawful (grind (arith, tells)) k
-call-busy {m} lawful {h = h} {v = v} {w = w} k (back-accepted n p) =
+call-busy {m} lawful {v = v} {w = w} k (back-accepted n p) =
     let a : (w ≡ moved v (behind m v n) (v .position - n)) × (n ≤ v .position) = grind (arith, tells) in
     let at : w .position ≡ v .position - n = ap (λ u. u .position) (a .0) in
     goes-on lawful (back n) (λ i. (refl, refl)) (omega (arith, k .gone)) (goes-back lawful v w n (a .0)) k
@@ -258,3 +266,10 @@ gone-by {m} lawful {h} {v} {msg} a = go (stands lawful a)
     go : {o : Option Opening} {u : View} → Standing m o h u msg → Balanced h (u .position)
     go (idle z) = z
     go (busy k) = k .gone
+
+pub bounded : {m : Meaning} (lawful : Lawful m) {h : List Event} {v : View} {msg : List ℕ} → After m h v msg → v .position ≤ v .limit
+bounded {m} lawful {h} {v} {msg} a = go (stands lawful a)
+  where
+    go : {o : Option Opening} {u : View} → Standing m o h u msg → u .position ≤ u .limit
+    go (idle z) = omega arith
+    go (busy k) = k .within

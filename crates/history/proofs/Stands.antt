@@ -25,7 +25,7 @@ use Rattle.session.specs.View.{View, stream-byte}
 use Rattle.session.specs.Calls.{OriginOf, Joined, Traced, from-origin, from-trace}
 use Rattle.history.specs.Laws.{Session-laws, Opening, Event, Keystream, SameKeyIv}
 use Rattle.session.proofs.Repeats.{times-even, trace-one}
-use Rattle.history.proofs.Standing.{Kept, key-byte, kept, emptied, gone-by}
+use Rattle.history.proofs.Standing.{Kept, key-byte, kept, emptied, gone-by, bounded}
 
 xor-twice : (b x : ℕ) → bitXor (bitXor x b) b ≡ x
 xor-twice b x = xor-assoc x b b ∙ ap (bitXor x) (xor-self b) ∙ xor-zero-r x
@@ -120,6 +120,10 @@ module _ {m : Meaning} (lawful : Lawful m) (s key iv key-after iv-after : List �
 pub session-laws : {m : Meaning} → Lawful m → Session-laws m
 session-laws {m} lawful = record {
   position-is = gone-by lawful;
+  within-limit = bounded lawful;
+  limit-is = λ u.
+      let k = kept lawful u in
+      (k .limits, k .active);
   state-at = λ u. here (kept lawful u);
   closed-is-shut = emptied lawful;
   same-state = λ u u′ at. same-exactly lawful (kept lawful u) (kept lawful u′) at;
@@ -133,7 +137,7 @@ session-laws {m} lawful = record {
       k .bytes i none ∙ times-even _ (xor-twice (key-byte m (k .start) i)) _ _ .0 even;
   origin-named = λ {o = o} {v = v} key iv key-after iv-after r u named.
       let k = kept lawful u in
-      origin-is lawful o v key iv key-after iv-after r (k .active) (here k) named;
+      origin-is lawful o v key iv key-after iv-after r (omega (arith, k .limits, k .active)) (here k) named;
   deciphers = λ {v = v} {v′ = v′} w w′ start count a b c u u′ same at p q.
       let state = same-exactly lawful (kept lawful u) (kept lawful u′) at .1 same in
       let one : Joined m v start count a b = grind (arith, tells) in

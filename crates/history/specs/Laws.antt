@@ -3,7 +3,7 @@ use mathlib.Core.Path.{_≡_}
 use mathlib.Core.Bool.{cond}
 use mathlib.Core.List.{List, [], _∷_}
 use mathlib.Core.Logic.{_⊎_}
-use Prim.Native.Nat.{ℕ, _+_, _/_, _%_, _<_, _≤_, _^_}
+use Prim.Native.Nat.{ℕ, _+_, _*_, _/_, _%_, _<_, _≤_, _^_}
 use lib.Bits.{bitXor}
 use lib.Dec.{ltb, leb}
 use lib.ListN.{length, getD}
@@ -22,10 +22,11 @@ use Rattle.session.specs.declared.refusals.TraceFault.the-variants.{NoOrigin}
 use Rattle.session.specs.View.{View, shut}
 use Rattle.session.specs.Calls.{Opened, Applied, Skipped, SteppedBack, OriginOf, Closed, Traced}
 
--- an accepted opening: its key and IV, and what the message held then
+-- an accepted opening: its key and IV, its limit in words, and what the message held then
 pub record Opening : Type 0 where
   pub key : List ℕ
   pub iv : List ℕ
+  pub limit : ℕ
   pub message : List ℕ
 
 -- What a call of a session came to. One message is lent to the session, and any call may take another buffer in its place.
@@ -47,7 +48,7 @@ pub data Event : Type 0 where
 
 -- One call: the session and the message before it, what it came to, and both after it. Each case says what the call's own contract says.
 pub data Call (m : Meaning) : View → List ℕ → Event → View → List ℕ → Type 0 where
-  open-accepted : {v w : View} {msg : List ℕ} (key iv : List ℕ) (limit : ℕ) → Bytes key → Bytes iv → Opened m v key iv limit (Ok tt) w → Call m v msg (opened (record { key = key; iv = iv; message = msg })) w msg
+  open-accepted : {v w : View} {msg : List ℕ} (key iv : List ℕ) (limit : ℕ) → Bytes key → Bytes iv → Opened m v key iv limit (Ok tt) w → Call m v msg (opened (record { key = key; iv = iv; limit = limit; message = msg })) w msg
   open-refused : {v w : View} {msg : List ℕ} (key iv : List ℕ) (limit : ℕ) (e : Refusal) → Opened m v key iv limit (Err e) w → Call m v msg unchanged w msg
   apply-piece : {v w : View} {msg after : List ℕ} (count : ℕ) → Applied m v (v .position) count msg (Ok tt) w after → Call m v msg (piece (v .position) count) w after
   apply-stray : {v w : View} {msg after : List ℕ} (start count : ℕ) → (start ≡ v .position → ⊥) → Applied m v start count msg (Ok tt) w after → Call m v msg (stray start count) w after
@@ -144,6 +145,10 @@ pub record Keystream (m : Meaning) (key iv : List ℕ) (i b : ℕ) : Type 0 wher
 pub record Session-laws (m : Meaning) : Type 0 where
   -- the position is the bytes applied and skipped since the opening, less those stepped back
   pub position-is : {h : List Event} {v : View} {msg : List ℕ} → After m h v msg → v .position + gone-back h ≡ gone-on h
+  -- it never passes the limit
+  pub within-limit : {h : List Event} {v : View} {msg : List ℕ} → After m h v msg → v .position ≤ v .limit
+  -- the limit is the opening's, and not 0, so that no call is refused as not open
+  pub limit-is : {o : Opening} {h : List Event} {v : View} {msg : List ℕ} → Under m o h v msg → (v .limit ≡ 4 * o .limit) × (0 < o .limit)
   -- the generator's state is the load of the opening's key and IV after position / 4 nexts
   pub state-at : {o : Opening} {h : List Event} {v : View} {msg : List ℕ} → Under m o h v msg → Reaches m (o .key) (o .iv) (v .position / 4) (v .state)
   -- where no opening lasts, nothing of one is left

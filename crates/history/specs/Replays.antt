@@ -45,7 +45,7 @@ accepted (Names r key iv) = ok r
 
 -- what a request comes to where it is accepted
 abbrev pub event : View → List ℕ → Request → Event
-event v msg (Open key iv limit) = opened (record { key = now key; iv = now iv; message = msg })
+event v msg (Open key iv limit) = opened (record { key = now key; iv = now iv; limit = limit; message = msg })
 event v msg (ApplyToMessage start count) = cond (eqb start (v .position)) (piece start count) (stray start count)
 event v msg (ApplyElsewhere bytes start count) = onward count
 event v msg (Skip n) = onward n
