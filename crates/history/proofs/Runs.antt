@@ -16,7 +16,8 @@ use Rattle.words.specs.Words.{Bytes}
 use Rattle.history.specs.declared.requests.Request.{Request}
 use Rattle.history.specs.declared.requests.Answer.{Answer}
 use Rattle.session.specs.View.{View}
-use Rattle.session.specs.Calls.{Applied}
+use Rattle.session.specs.declared.refusals.Refusal.{Refusal}
+use Rattle.session.specs.Calls.{Applied, OriginOf}
 use Rattle.history.specs.Laws.{Event, piece, stray, unchanged, Call, open-accepted, open-refused, apply-piece, apply-stray, apply-refused, elsewhere-accepted, elsewhere-refused, skip-accepted, skip-refused, back-accepted, back-refused, ask, close-accepted, close-refused, After, made, then}
 use Rattle.history.specs.Replays.{Does, opens, applies, elsewhere, skips, steps-back, asks-place, asks-origin, closes, accepted, event, Ran, none, more, Stopped}
 
@@ -56,6 +57,16 @@ pub after-run : {m : Meaning} {given : List ℕ} {qs : List Request} {rs : List 
 after-run none = made
 after-run (more r d) = then (after-run r) (is-call d)
 
+-- an origin, over other names for what the buffers held and hold
+pub origin-over : (m : Meaning) (v : View) (r : Result (ℕ × ℕ) Refusal) (key iv key-after iv-after key′ iv′ key-after′ iv-after′ : List ℕ) → key ≡ key′ → iv ≡ iv′ → key-after′ ≡ key-after → iv-after′ ≡ iv-after → OriginOf m v key iv r key-after iv-after
+    → OriginOf m v key′ iv′ r key-after′ iv-after′
+origin-over m v r key iv key-after iv-after key′ iv′ key-after′ iv-after′ e f e′ f′ named =
+    subst (λ x. OriginOf m v x iv′ r key-after′ iv-after′) e (subst (λ x. OriginOf m v key x r key-after′ iv-after′) f (subst (λ x. OriginOf m v key iv r x iv-after′) (sym e′) (subst (OriginOf m v key iv r key-after) (sym f′) named)))
+
+-- what was asked, under another name for it
+pub as-asked : {m : Meaning} {v w : View} {msg after : List ℕ} {q asked : Request} {a : Answer} → asked ≡ q → Does m v msg q a w after → Does m v msg asked a w after
+as-asked {m} {v} {w} {msg} {after} {a = a} e = subst (λ r. Does m v msg r a w after) (sym e)
+
 -- the next of a list of requests
 pub ran-more : {m : Meaning} {given : List ℕ} (qs : List Request) (i : ℕ) (d : Request) (rs rs′ : List Answer) {h : List Event} {v w : View} {msg after : List ℕ} (a : Answer)
     → i < length qs → rs′ ≡ rs ++ a ∷ [] → Ran m given (take i qs) rs h v msg → Does m v msg (getD qs i d) a w after → (h : List Event) × Ran m given (take (i + 1) qs) rs′ h w after
@@ -63,6 +74,7 @@ ran-more {m} {given} qs i d rs rs′ {h} {v} {w} {msg} {after} a lt e ran does =
     let h′ = cond (accepted a) (event v msg (getD qs i d)) unchanged ∷ h in
     (h′, subst (λ xs. Ran m given xs rs′ h′ w after) (sym (take-more qs i d lt)) (subst (λ ys. Ran m given (take i qs ++ getD qs i d ∷ []) ys h′ w after) (sym e) (more ran does)))
 
--- memory ran out after so many requests
-pub stopped : {m : Meaning} {given : List ℕ} (qs : List Request) (count : ℕ) (rs : List Answer) (h : List Event) (v : View) (msg : List ℕ) → count ≤ length qs → Ran m given (take count qs) rs h v msg → Stopped m given qs msg
-stopped qs count rs h v msg within ran = record { count = count; within = within; answers = rs; events = h; view = v; ran = ran; after = after-run ran }
+-- memory ran out after so many requests, and the message was left as they left it
+pub stopped : {m : Meaning} {given : List ℕ} (qs : List Request) (count : ℕ) (rs : List Answer) (h : List Event) (v : View) (msg left : List ℕ) → left ≡ msg → count ≤ length qs → Ran m given (take count qs) rs h v msg → Stopped m given qs left
+stopped {m} {given} qs count rs h v msg left e within ran =
+    subst (Stopped m given qs) (sym e) (record { count = count; within = within; answers = rs; events = h; view = v; ran = ran; after = after-run ran })

@@ -1,7 +1,6 @@
 use mathlib.Core.Path.{refl, sym, subst}
 use mathlib.Core.List.{[], _∷_, _++_}
 use Prim.Native.Nat.{_+_}
-use lib.ListN.{take}
 use native.Mathlib.Omega.{arith}
 use Rattle.std.specs.Of.Vec.{vec-items}
 use Rattle.std.proofs.shelf.Lists.{take-all}
@@ -30,14 +29,11 @@ returns g c =
 
 pub returns-in-Break-perform : need.returns-in-Break-perform
 returns-in-Break-perform g c =
-    let m = g .G·Generator .meaning in
     let i = c .loop-request .request-index in
     let answers = vec-items (c .loop-request .answers) in
-    let h = c .loop-request .inv .0 in
     let v = view (g .G·Generator .state) (c .loop-request .session) in
-    let ran = subst (Ran m (c .args .message .now) (take i (c .args .requests .now)) answers h v) (sym (c .in-Break-perform .ensures tt .1)) (c .loop-request .inv .1) in
     record {
-      replayed = cases-from-err (c .from-residual .result) _ _ (c .from-residual .ensures .0) (λ _. stopped (c .args .requests .now) i answers h v (c .perform .last .message) (omega arith) ran);
+      replayed = cases-from-err (c .from-residual .result) _ _ (c .from-residual .ensures .0) (λ _. stopped (c .args .requests .now) i answers (c .loop-request .inv .0) v (c .loop-request .message) (c .perform .last .message) (c .in-Break-perform .ensures tt .1) (omega arith) (c .loop-request .inv .1));
       laws = session-laws (g .G·Generator·met .lawful);
     }
 
@@ -49,6 +45,6 @@ returns-in-Break-push g c =
     let v = view (g .G·Generator .state) (c .perform .last .session) in
     let next = ran-more (c .args .requests .now) i _ answers (answers ++ a ∷ []) a (c .loop-request-test .taken) refl (c .loop-request .inv .1) (c .in-Continue-perform .ensures tt) in
     record {
-      replayed = cases-from-err (c .from-residual-in-Break-push .result) _ _ (c .from-residual-in-Break-push .ensures .0) (λ _. stopped (c .args .requests .now) (i + 1) (answers ++ a ∷ []) (next .0) v (c .perform .last .message) (omega arith) (next .1));
+      replayed = cases-from-err (c .from-residual-in-Break-push .result) _ _ (c .from-residual-in-Break-push .ensures .0) (λ _. stopped (c .args .requests .now) (i + 1) (answers ++ a ∷ []) (next .0) v (c .perform .last .message) (c .perform .last .message) refl (omega arith) (next .1));
       laws = session-laws (g .G·Generator·met .lawful);
     }
