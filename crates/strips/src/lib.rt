@@ -1,0 +1,8 @@
+// Strips: recorded lists of session calls, run over any keystream generator.
+mod bytes;
+mod cursor;
+mod orders;
+mod stops;
+
+pub use stops::Report;
+pub use stops::Stop;
