@@ -4,7 +4,7 @@ use Prim.Native.Nat.{ℕ, _/_, _%_, _^_}
 use lib.ListN.{length, take, replicate}
 use Rattle.std.specs.declared.result.Result.{Result}
 use Rattle.std.specs.declared.result.Result.the-variants.{Ok, Err}
-use Rattle.words.specs.Words.{Bytes, bytes-of}
+use Rattle.words.specs.Words.{Bytes}
 use Rattle.generator.specs.Meaning.{Meaning}
 use Rattle.session.specs.declared.refusals.Refusal.{Refusal}
 use Rattle.session.specs.View.{View}
@@ -16,9 +16,13 @@ abbrev pub with-bytes : Result Unit Refusal → List ℕ → Result (List ℕ) R
 with-bytes (Ok tt) bytes = Ok bytes
 with-bytes (Err e) bytes = Err e
 
--- a position in eight bytes
+-- a number in eight bytes, the most significant first
+abbrev pub eight-bytes : ℕ → List ℕ
+eight-bytes n =
+    (n / 256 ^ 7 % 256) ∷ (n / 256 ^ 6 % 256) ∷ (n / 256 ^ 5 % 256) ∷ (n / 256 ^ 4 % 256) ∷ (n / 256 ^ 3 % 256) ∷ (n / 256 ^ 2 % 256) ∷ (n / 256 % 256) ∷ (n % 256) ∷ []
+
 abbrev pub place-bytes : Result ℕ Refusal → Result (List ℕ) Refusal
-place-bytes (Ok n) = Ok (bytes-of (n / 2 ^ 32) ++ bytes-of (n % 2 ^ 32))
+place-bytes (Ok n) = Ok (eight-bytes n)
 place-bytes (Err e) = Err e
 
 -- the lengths of a key and an IV in a byte each, and both from the front of two buffers

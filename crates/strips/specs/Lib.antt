@@ -4,3 +4,4 @@ pub mod Reading
 pub mod Cursors
 pub mod Replies
 pub mod Answered
+pub mod Runs

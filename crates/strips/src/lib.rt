@@ -1,7 +1,9 @@
 // Strips: recorded lists of session calls, run over any keystream generator.
+mod answers;
 mod bytes;
 mod cursor;
 mod orders;
+mod replies;
 mod stops;
 
 pub use stops::Report;
