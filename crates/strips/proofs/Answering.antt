@@ -6,7 +6,7 @@ use Prim.Native.Nat.{ℕ, _+_, _/_, _≤_}
 use native.Mathlib.Omega.{arith}
 use lib.ListN.{length, take, drop, replicate}
 use Rattle.std.proofs.shelf.Lists.{length-append}
-use Rattle.std.specs.Results.{ErrBy}
+use Rattle.std.specs.Results.{ErrBy, isErr}
 use Rattle.std.proofs.shelf.Results.{err-from-errBy}
 use Rattle.std.specs.declared.result.Result.{Result}
 use Rattle.std.specs.declared.result.Result.the-variants.{Ok, Err}
@@ -20,7 +20,7 @@ use Rattle.session.specs.View.{View}
 use Rattle.session.specs.Calls.{closed, Opened, Applied, OriginOf, from-origin}
 use Rattle.strips.specs.declared.orders.Order.{Order}
 use Rattle.strips.specs.Orders.{Asked, opening, applying, asked}
-use Rattle.strips.specs.Answered.{Answered, opens, applies, with-bytes, in-buffer}
+use Rattle.strips.specs.Answered.{Answered, opens, applies, with-bytes, in-buffer, Sized}
 
 -- a refusal that a `?` hands up
 pub refused : {m : Meaning} {v w : View} {q : Asked} (r : Result ℕ Refusal) (buffer : List ℕ) (e : Refusal) → ErrBy r (λ y. y ≡ e) → Answered m v q (Err e) w → Answered m v q (in-buffer r buffer) w
@@ -28,6 +28,10 @@ refused {m} {v} {w} {q} r buffer e by a =
     let p = err-from-errBy r by in
     let same : r ≡ Err e = cc in
     subst (λ x. Answered m v q (in-buffer x buffer) w) (sym same) a
+
+pub refused-sized : (n : ℕ) (r : Result ℕ Refusal) → isErr r ≡ true → Sized n r
+refused-sized n (Ok k) e = let z : _≡_ {A = ℕ} 0 1 = cc in absurd (omega arith)
+refused-sized n (Err f) e = tt
 
 pub opening-answered : {m : Meaning} {v w : View} (key copy iv : List ℕ) (limit : ℕ) (r : Result Unit Refusal) → copy ≡ key → Bytes key → Bytes iv → Opened m v copy iv limit r w → Answered m v (opening key iv limit) (with-bytes r []) w
 opening-answered {m} {v} {w} key copy iv limit r e kb ib p = opens key iv limit r kb ib (subst (λ k. Opened m v k iv limit r w) e p)

@@ -1,5 +1,5 @@
 -- Bytes written into a buffer, one part behind the other. Assumes nothing.
-use mathlib.Core.Path.{_≡_, sym, ap, ap₂, _∙_}
+use mathlib.Core.Path.{_≡_, refl, sym, ap, ap₂, _∙_}
 use mathlib.Core.List.{List, _++_}
 use Prim.Native.Nat.{ℕ, _+_, _-_, _≤_}
 use native.Mathlib.Omega.{arith}
@@ -41,3 +41,20 @@ put-put at n xs ys buffer within e =
 -- a part that was written in place
 pub put-part : (at k : ℕ) (part buffer : List ℕ) → length part ≡ k → putMid at k buffer part ≡ put-at at part buffer
 put-part at k part buffer e = ap (λ rest. take at buffer ++ (part ++ rest)) (drop-drop k at buffer ∙ ap (λ n. drop (at + n) buffer) (sym e))
+
+-- bytes written where the bytes written before end
+pub put-behind : (out bytes before : List ℕ) → put-at (length out) bytes (out ++ drop (length out) before) ≡ (out ++ bytes) ++ drop (length (out ++ bytes)) before
+put-behind out bytes before =
+    let n = length out in
+    let rest = drop n before in
+    let front : take n (out ++ rest) ≡ out = take-at out rest n refl in
+    let behind : drop (n + length bytes) (out ++ rest) ≡ drop (length (out ++ bytes)) before =
+    sym (drop-drop (length bytes) n (out ++ rest)) ∙ ap (drop (length bytes)) (drop-at out rest n refl) ∙ drop-drop (length bytes) n before ∙ ap (λ k. drop k before) (sym (length-append out bytes)) in
+    ap₂ (λ p q. p ++ (bytes ++ q)) front behind ∙ sym (append-assoc out bytes (drop (length (out ++ bytes)) before))
+
+-- what is written into a buffer that keeps its length ends within it
+pub put-within : (at : ℕ) (bytes buffer after : List ℕ) → after ≡ put-at at bytes buffer → length after ≡ length buffer → at ≤ length buffer → at + length bytes ≤ length buffer
+put-within at bytes buffer after e same within =
+    let rest = drop (at + length bytes) buffer in
+    let long : length after ≡ length (take at buffer) + length (bytes ++ rest) = ap length e ∙ length-append (take at buffer) (bytes ++ rest) in
+    omega (arith, length-append bytes rest, length-take-le at buffer within)

@@ -1,6 +1,6 @@
 -- What a session answers to an order, by the contracts of its calls. Assumes nothing.
 use mathlib.Core.List.{List, [], _∷_, _++_}
-use Prim.Native.Nat.{ℕ, _/_, _%_, _^_}
+use Prim.Native.Nat.{ℕ, _/_, _%_, _^_, _≤_}
 use lib.ListN.{length, take, replicate}
 use Rattle.std.specs.declared.result.Result.{Result}
 use Rattle.std.specs.declared.result.Result.the-variants.{Ok, Err}
@@ -46,3 +46,8 @@ pub data Answered (m : Meaning) (v : View) : Asked → Result (List ℕ) Refusal
 abbrev pub in-buffer : Result ℕ Refusal → List ℕ → Result (List ℕ) Refusal
 in-buffer (Ok n) buffer = Ok (take n buffer)
 in-buffer (Err e) buffer = Err e
+
+-- a reply of n bytes at most
+abbrev pub Sized : ℕ → Result ℕ Refusal → Type 0
+Sized n (Ok count) = count ≤ n
+Sized n (Err e) = Unit {0}

@@ -5,3 +5,4 @@ pub mod Cursors
 pub mod Replies
 pub mod Answered
 pub mod Runs
+pub mod Turns

@@ -43,8 +43,8 @@ abbrev pub reply-to : ℕ → Asked → Result (List ℕ) Refusal → List ℕ
 reply-to place q (Ok bytes) = accepted-reply (kind q) bytes
 reply-to place q (Err e) = refusal-reply (number e) (member-of e) place
 
-abbrev pub refusals : Result (List ℕ) Refusal → ℕ
-refusals (Ok bytes) = 0
+abbrev pub refusals : {X : Type 0} → Result X Refusal → ℕ
+refusals (Ok x) = 0
 refusals (Err e) = 1
 
 -- how far a run has come: the words of finished orders, the reply bytes written, the orders refused, and the finished orders
@@ -80,3 +80,39 @@ pub data Turn (m : Meaning) (strip : List ℕ) (room : ℕ) (p : Progress) (v : 
   too-long : (q : Asked) (size : ℕ) → length (p .out) + 4 ≤ room → reads strip (p .words) ≡ order q size → room < length (p .out) + reply-room q → Turn m strip room p v (Err NoRoom) p v
   does : {w : View} (q : Asked) (size : ℕ) (a : Result (List ℕ) Refusal) → length (p .out) + 4 ≤ room → reads strip (p .words) ≡ order q size → length (p .out) + reply-room q ≤ room → Answered m v q a w
       → Turn m strip room p v (Ok (is-end q)) (with-order p q size a) w
+
+-- turns one after the other, from the session's making on
+pub data Turns (m : Meaning) (strip : List ℕ) (room : ℕ) : Progress → View → Type 0 where
+  begun : Turns m strip room start (shut m)
+  more : {p q : Progress} {v w : View} → Turns m strip room p v → Turn m strip room p v (Ok false) q w → Turns m strip room q w
+
+-- what the last turn of a run answers
+abbrev pub outcome : Option Stop → Result Bool Stop
+outcome (Some s) = Err s
+outcome None = Ok true
+
+-- the report of a run that came so far
+abbrev pub report-of : Option Stop → Progress → Report
+report-of stopped p = record { stopped = stopped; words = p .words; bytes = length (p .out); refused = p .refused }
+
+-- the orders of a strip up to its end or to a stop, what is reported of them, and the replies, which stood `before` in the buffer otherwise
+pub record Ran (m : Meaning) (strip before : List ℕ) (r : Report) (after : List ℕ) : Type 0 where
+  pub progress : Progress
+  pub view : View
+  pub turns : Turns m strip (length before) progress view
+  pub end : Progress
+  pub end-view : View
+  pub last : Turn m strip (length before) progress view (outcome (r .stopped)) end end-view
+  pub reports : r ≡ report-of (r .stopped) end
+  pub replies : after ≡ end .out ++ drop (length (end .out)) before
+
+-- a strip of bytes that are not whole words, or of more than 64,000
+abbrev pub bad-length : List ℕ → Bool
+bad-length strip = ltb 0 (length strip % 4) || ltb 64000 (length strip)
+
+-- a run of a strip with a buffer for its replies: the report, and the buffer after it
+abbrev pub RunOf : Meaning → List ℕ → List ℕ → Report → List ℕ → Type 0
+RunOf m strip before r after =
+    cond (ltb (length before) 4) ((r ≡ report-of (Some NoRoom) start) × (after ≡ before))
+    (cond (bad-length strip) ((r ≡ report-of (Some BadLength) (with-stop start BadLength)) × (after ≡ with-stop start BadLength .out ++ drop 4 before))
+    (Ran m strip before r after))

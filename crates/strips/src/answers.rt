@@ -1,12 +1,13 @@
 // Orders put to a session.
 ghost use mathlib.Core.Path.{_≡_};
-ghost use Prim.Native.Nat.{_≤_};
+ghost use Prim.Native.Nat.{_+_, _-_, _≤_};
 ghost use lib.ListN.{length, take};
 ghost use mathlib.Core.List.{_∷_, _++_};
 ghost use Rattle.session.specs.View.{view};
 ghost use Rattle.strips.specs.Orders.{asked, opening, applying, placing, naming};
 ghost use Rattle.strips.specs.Reading.{Small};
-ghost use Rattle.strips.specs.Answered.{Answered, in-buffer};
+ghost use Rattle.strips.specs.Answered.{Answered, in-buffer, Sized};
+ghost use Rattle.strips.specs.Replies.{reply-room};
 use crate::bytes::are_bytes;
 use crate::bytes::put;
 use crate::orders::Order;
@@ -26,7 +27,8 @@ fn answer_opening<G: Generator>(
     reply: &mut [u8],
 ) -> Result<usize, Refusal>
     requires { ⌜ length (now key) ≤ length (now reply) ⌝ }
-    ensures { λ r. ⌜ Answered (G·Generator .meaning) (view (G·Generator .state) (now (session .entry))) (opening (now (key .entry)) (now (iv .entry)) limit) (in-buffer r (now (reply .exit))) (view (G·Generator .state) (now (session .exit))) ⌝ }
+    ensures answered { λ r. ⌜ Answered (G·Generator .meaning) (view (G·Generator .state) (now (session .entry))) (opening (now (key .entry)) (now (iv .entry)) limit) (in-buffer r (now (reply .exit))) (view (G·Generator .state) (now (session .exit))) ⌝ }
+    ensures sized { λ r. ⌜ Sized 0 r ⌝ }
 {
     are_bytes(key);
     are_bytes(iv);
@@ -43,7 +45,8 @@ fn answer_payload<G: Generator>(
     reply: &mut [u8],
 ) -> Result<usize, Refusal>
     requires { ⌜ length (now payload) ≤ length (now reply) ⌝ }
-    ensures { λ r. ⌜ Answered (G·Generator .meaning) (view (G·Generator .state) (now (session .entry))) (applying (now (payload .entry))) (in-buffer r (now (reply .exit))) (view (G·Generator .state) (now (session .exit))) ⌝ }
+    ensures answered { λ r. ⌜ Answered (G·Generator .meaning) (view (G·Generator .state) (now (session .entry))) (applying (now (payload .entry))) (in-buffer r (now (reply .exit))) (view (G·Generator .state) (now (session .exit))) ⌝ }
+    ensures sized { λ r. ⌜ Sized (length (now (payload .entry))) r ⌝ }
 {
     let count = payload.len();
     let copy = &mut reply[0..count];
@@ -54,7 +57,8 @@ fn answer_payload<G: Generator>(
 
 fn answer_position<G: Generator>(session: &Session<G>, reply: &mut [u8]) -> Result<usize, Refusal>
     requires { ⌜ 8 ≤ length (now reply) ⌝ }
-    ensures { λ r. ⌜ Answered (G·Generator .meaning) (view (G·Generator .state) (now (session .entry))) placing (in-buffer r (now (reply .exit))) (view (G·Generator .state) (now (session .entry))) ⌝ }
+    ensures answered { λ r. ⌜ Answered (G·Generator .meaning) (view (G·Generator .state) (now (session .entry))) placing (in-buffer r (now (reply .exit))) (view (G·Generator .state) (now (session .entry))) ⌝ }
+    ensures sized { λ r. ⌜ Sized 8 r ⌝ }
 {
     let position = session.position()?;
     put(reply, 0, &position.to_be_bytes());
@@ -64,7 +68,8 @@ fn answer_position<G: Generator>(session: &Session<G>, reply: &mut [u8]) -> Resu
 // A key and an IV behind their lengths, at the front of a reply; answers how many bytes that is.
 fn put_names(reply: &mut [u8], key: &[u8], iv: &[u8]) -> usize
     requires { ⌜ 512 ≤ length (now reply) ⌝ ∗ ⌜ length (now key) ≤ 255 ⌝ ∗ ⌜ length (now iv) ≤ 255 ⌝ }
-    ensures { λ r. ⌜ take r (now (reply .exit)) ≡ length (now (key .entry)) ∷ length (now (iv .entry)) ∷ (now (key .entry) ++ now (iv .entry)) ⌝ }
+    ensures size { λ r. ⌜ r ≡ 2 + length (now (key .entry)) + length (now (iv .entry)) ⌝ }
+    ensures names { λ r. ⌜ take r (now (reply .exit)) ≡ length (now (key .entry)) ∷ length (now (iv .entry)) ∷ (now (key .entry) ++ now (iv .entry)) ⌝ }
 {
     put(reply, 0, &[key.len() as u8, iv.len() as u8]);
     put(reply, 2, key);
@@ -74,7 +79,8 @@ fn put_names(reply: &mut [u8], key: &[u8], iv: &[u8]) -> usize
 
 fn answer_origin<G: Generator>(session: &mut Session<G>, reply: &mut [u8]) -> Result<usize, Refusal>
     requires { ⌜ 512 ≤ length (now reply) ⌝ }
-    ensures { λ r. ⌜ Answered (G·Generator .meaning) (view (G·Generator .state) (now (session .entry))) naming (in-buffer r (now (reply .exit))) (view (G·Generator .state) (now (session .exit))) ⌝ }
+    ensures answered { λ r. ⌜ Answered (G·Generator .meaning) (view (G·Generator .state) (now (session .entry))) naming (in-buffer r (now (reply .exit))) (view (G·Generator .state) (now (session .exit))) ⌝ }
+    ensures sized { λ r. ⌜ Sized 512 r ⌝ }
 {
     let mut key = [0; LONGEST];
     let mut iv = [0; LONGEST];
@@ -89,7 +95,8 @@ pub(crate) fn answer<G: Generator>(
     reply: &mut [u8],
 ) -> Result<usize, Refusal>
     requires { ⌜ 512 ≤ length (now reply) ⌝ ∗ ⌜ Small (length (now reply)) (asked order) ⌝ }
-    ensures { λ r. ⌜ Answered (G·Generator .meaning) (view (G·Generator .state) (now (session .entry))) (asked (order .entry)) (in-buffer r (now (reply .exit))) (view (G·Generator .state) (now (session .exit))) ⌝ }
+    ensures answered { λ r. ⌜ Answered (G·Generator .meaning) (view (G·Generator .state) (now (session .entry))) (asked (order .entry)) (in-buffer r (now (reply .exit))) (view (G·Generator .state) (now (session .exit))) ⌝ }
+    ensures sized { λ r. ⌜ Sized (reply-room (asked (order .entry)) - 4) r ⌝ }
 {
     match order {
         Order::End => return Ok(0),

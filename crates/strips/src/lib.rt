@@ -4,7 +4,9 @@ mod bytes;
 mod cursor;
 mod orders;
 mod replies;
+mod runs;
 mod stops;
 
+pub use runs::run;
 pub use stops::Report;
 pub use stops::Stop;

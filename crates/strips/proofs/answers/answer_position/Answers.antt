@@ -7,13 +7,16 @@ use Rattle.session.specs.View.{view}
 use Rattle.strips.specs.Orders.{placing}
 use Rattle.strips.specs.Answered.{Answered, asks-place, eight-bytes}
 use Rattle.strips.proofs.Puts.{take-put}
-use Rattle.strips.proofs.Answering.{refused}
+use Rattle.strips.proofs.Answering.{refused, refused-sized}
 use Rattle.strips.proofs.answers.answer_position.Needs as need
 
 pub returns-in-Break-position : need.returns-in-Break-position
 returns-in-Break-position g c =
-    refused (c .from-residual .result) _ (c .in-Break-position .field-0 .0) (c .from-residual .ensures .1)
-    (asks-place (Err (c .in-Break-position .field-0 .0)) (c .in-Break-position .ensures tt))
+    record {
+      answered = refused (c .from-residual .result) _ (c .in-Break-position .field-0 .0) (c .from-residual .ensures .1)
+          (asks-place (Err (c .in-Break-position .field-0 .0)) (c .in-Break-position .ensures tt));
+      sized = refused-sized 8 (c .from-residual .result) (c .from-residual .ensures .0);
+    }
 
 pub returns : need.returns
 returns g c =
@@ -23,4 +26,7 @@ returns g c =
     let same : take 8 (c .put .last .buffer) ≡ eight-bytes n =
     ap (take 8) (c .put .ensures) ∙ take-put 0 bytes (c .args .reply .now) 8 (omega arith) (omega arith) ∙ c .to-be-bytes .ensures in
     let v = view (g .G·Generator .state) (c .args .session .now) in
-    subst (λ bs. Answered (g .G·Generator .meaning) v placing (Ok bs) v) (sym same) (asks-place (Ok n) (c .in-Continue-position .ensures tt))
+    record {
+      answered = subst (λ bs. Answered (g .G·Generator .meaning) v placing (Ok bs) v) (sym same) (asks-place (Ok n) (c .in-Continue-position .ensures tt));
+      sized = omega arith;
+    }

@@ -18,4 +18,4 @@ returns c =
     let lengths : take 2 b1 ≡ length key ∷ length iv ∷ [] = ap (take 2) (c .put .ensures) ∙ take-put 0 (length key ∷ length iv ∷ []) reply 2 (omega arith) refl in
     let with-key : take (2 + length key) b2 ≡ take 2 b1 ++ key = ap (take (2 + length key)) (c .put-2 .ensures) ∙ take-put 2 key b1 (2 + length key) (omega arith) refl in
     let with-iv = ap (take (2 + length key + length iv)) (c .put-3 .ensures) ∙ take-put (2 + length key) iv b2 (2 + length key + length iv) (omega arith) refl in
-    with-iv ∙ ap (λ bs. bs ++ iv) (with-key ∙ ap (λ bs. bs ++ key) lengths)
+    record { size = refl; names = with-iv ∙ ap (λ bs. bs ++ iv) (with-key ∙ ap (λ bs. bs ++ key) lengths) }
