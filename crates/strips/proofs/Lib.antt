@@ -1,3 +1,4 @@
 pub mod Puts
 pub mod Answering
 pub mod Turning
+pub mod Recording

@@ -6,3 +6,4 @@ pub mod Replies
 pub mod Answered
 pub mod Runs
 pub mod Turns
+pub mod Records

@@ -4,10 +4,12 @@ ghost use mathlib.Core.List.{List};
 ghost use Prim.Native.Nat.{ℕ, _+_, _≤_};
 ghost use lib.ListN.{length};
 ghost use Rattle.session.specs.View.{view, shut};
+ghost use Rattle.history.specs.Laws.{Session-laws};
 ghost use Rattle.strips.specs.Orders.{asked};
 ghost use Rattle.strips.specs.Replies.{put-at};
 ghost use Rattle.strips.specs.Answered.{in-buffer};
 ghost use Rattle.strips.specs.Runs.{Progress, refusals, reply-to, RunOf, Ran};
+ghost use Rattle.strips.specs.Records.{Recorded};
 ghost use Rattle.strips.specs.Turns.{Holds, Turned, Between, Onward, HasRoom};
 use crate::answers::answer;
 use crate::cursor::Cursor;
@@ -124,7 +126,9 @@ fn run_orders<G: Generator>(
 
 // Runs a strip over the generator: puts its orders to a session of its own, and writes the replies at the front of a buffer.
 pub fn run<G: Generator + Drop>(generator: G, strip: &[u8], replies: &mut [u8]) -> Report
-    ensures { λ r. ⌜ RunOf (G·Generator .meaning) (now (strip .entry)) (now (replies .entry)) r (now (replies .exit)) ⌝ }
+    ensures ran { λ r. ⌜ RunOf (G·Generator .meaning) (now (strip .entry)) (now (replies .entry)) r (now (replies .exit)) ⌝ }
+    ensures recorded { λ r. ⌜ Recorded (G·Generator .meaning) (now (strip .entry)) (now (replies .entry)) r (now (replies .exit)) ⌝ }
+    ensures laws { λ _. ⌜ Session-laws (G·Generator .meaning) ⌝ }
 {
     if replies.len() < 4 {
         return Report {
