@@ -3,4 +3,6 @@ pub mod Numbers
 pub mod Written
 pub mod RegisterLaws
 pub mod LoadLaws
+pub mod Starts
 pub mod Snow2Steps
+pub mod Snow2Laws
