@@ -6,3 +6,4 @@ pub mod LoadLaws
 pub mod Starts
 pub mod Snow2Steps
 pub mod Snow2Laws
+pub mod Snow2Parts

@@ -120,8 +120,8 @@ with-iv-fit a v fa fv =
     let wv = at-below (2 ^ 32) v (omega arith) fv in
     fits-set (2 ^ 32) (set (set (set a 15 (at a 15 ⊕ at v 0)) 12 (at a 12 ⊕ at v 1)) 10 (at a 10 ⊕ at v 2)) 9 (at a 9 ⊕ at v 3)
     (fits-set (2 ^ 32) (set (set a 15 (at a 15 ⊕ at v 0)) 12 (at a 12 ⊕ at v 1)) 10 (at a 10 ⊕ at v 2)
-      (fits-set (2 ^ 32) (set a 15 (at a 15 ⊕ at v 0)) 12 (at a 12 ⊕ at v 1) (fits-set (2 ^ 32) a 15 (at a 15 ⊕ at v 0) fa (xor-lt 32 (at a 15) (at v 0) (wa 15) (wv 0))) (xor-lt 32 (at a 12) (at v 1) (wa 12) (wv 1)))
-      (xor-lt 32 (at a 10) (at v 2) (wa 10) (wv 2)))
+    (fits-set (2 ^ 32) (set a 15 (at a 15 ⊕ at v 0)) 12 (at a 12 ⊕ at v 1) (fits-set (2 ^ 32) a 15 (at a 15 ⊕ at v 0) fa (xor-lt 32 (at a 15) (at v 0) (wa 15) (wv 0))) (xor-lt 32 (at a 12) (at v 1) (wa 12) (wv 1)))
+    (xor-lt 32 (at a 10) (at v 2) (wa 10) (wv 2)))
     (xor-lt 32 (at a 9) (at v 3) (wa 9) (wv 3))
 
 pub state-256 : (k v : List ℕ) → State 8 k → State 4 v → State 16 (with-iv (expanded-256 k) v)

@@ -12,11 +12,16 @@ use Rattle.generator.specs.Refusals.{member}
 use Rattle.generator.specs.Meaning.{State}
 use Rattle.words.specs.Words.{Bytes, Words, words-bytes, words-of}
 use Rattle.words.proofs.Words.{fits-reverse}
+use Rattle.words.proofs.Spelled.{spell, spelled}
 use Rattle.words.proofs.Bytes.{bytes-of-bytes, length-bytes, words-of-bytes, words-fit, length-words, bytes-of-words}
 use Rattle.snow.specs.Register.{numbered}
 
 pub numbered-state : (n : ℕ) (bs : List ℕ) → Bytes bs → length bs ≡ 4 * n → State n (numbered bs)
 numbered-state n bs all len = record { count = length-reverse (words-of bs) ∙ length-words n bs len; fits = fits-reverse (2 ^ 32) (words-of bs) (words-fit bs all) }
+
+-- numbered words, written out
+pub numbered-spelled : (n : ℕ) (bs : List ℕ) → length bs ≡ 4 * n → numbered bs ≡ reverse (spell n 0 (words-of bs))
+numbered-spelled n bs len = ap reverse (spelled n (words-of bs) (length-words n bs len))
 
 -- the bytes of numbered words
 abbrev pub unnumbered : List ℕ → List ℕ

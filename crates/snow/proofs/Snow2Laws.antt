@@ -92,8 +92,7 @@ load-one {key} {iv} {key′} {iv′} kb ib kb′ ib′ (load-128 kl il e) (load-
     let k = numbered-state 4 key kb kl .count in
     let k′ = numbered-state 4 key′ kb′ kl′ .count in
     let v = numbered-state 4 iv ib il .count in
-    let v′ = numbered-state 4 iv′ ib′ il′ .count in
-    (
+    let v′ = numbered-state 4 iv′ ib′ il′ .count in (
       numbered-one 4 key key′ kb kb′ kl kl′ (sym (key-128-back (numbered key) (numbered iv) k v) ∙ ap key-128 same ∙ key-128-back (numbered key′) (numbered iv′) k′ v′),
       numbered-one 4 iv iv′ ib ib′ il il′ (sym (iv-128-back (numbered key) (numbered iv) k v) ∙ ap iv-128 same ∙ iv-128-back (numbered key′) (numbered iv′) k′ v′),
     )
@@ -102,17 +101,16 @@ load-one {key} {iv} {key′} {iv′} kb ib kb′ ib′ (load-256 kl il e) (load-
     let k = numbered-state 8 key kb kl .count in
     let k′ = numbered-state 8 key′ kb′ kl′ .count in
     let v = numbered-state 4 iv ib il .count in
-    let v′ = numbered-state 4 iv′ ib′ il′ .count in
-    (
+    let v′ = numbered-state 4 iv′ ib′ il′ .count in (
       numbered-one 8 key key′ kb kb′ kl kl′ (sym (key-256-back (numbered key) (numbered iv) k v) ∙ ap key-256 same ∙ key-256-back (numbered key′) (numbered iv′) k′ v′),
       numbered-one 4 iv iv′ ib ib′ il il′ (sym (iv-256-back (numbered key) (numbered iv) k v) ∙ ap iv-256 same ∙ iv-256-back (numbered key′) (numbered iv′) k′ v′),
     )
 load-one {key} {iv} {key′} {iv′} kb ib kb′ ib′ (load-128 kl il e) (load-256 kl′ il′ e′) =
     absurd (lengths-apart (numbered key) (numbered iv) (numbered key′) (numbered iv′) (numbered-state 4 key kb kl .count) (numbered-state 8 key′ kb′ kl′ .count)
-      (one-register _ _ (prepared-128 key iv kb ib kl il) (prepared-256 key′ iv′ kb′ ib′ kl′ il′) (sym e ∙ e′)))
+    (one-register _ _ (prepared-128 key iv kb ib kl il) (prepared-256 key′ iv′ kb′ ib′ kl′ il′) (sym e ∙ e′)))
 load-one {key} {iv} {key′} {iv′} kb ib kb′ ib′ (load-256 kl il e) (load-128 kl′ il′ e′) =
     absurd (lengths-apart (numbered key′) (numbered iv′) (numbered key) (numbered iv) (numbered-state 4 key′ kb′ kl′ .count) (numbered-state 8 key kb kl .count)
-      (one-register _ _ (prepared-128 key′ iv′ kb′ ib′ kl′ il′) (prepared-256 key iv kb ib kl il) (sym e′ ∙ e)))
+    (one-register _ _ (prepared-128 key′ iv′ kb′ ib′ kl′ il′) (prepared-256 key iv kb ib kl il) (sym e′ ∙ e)))
 
 load-short : {key iv s : List ℕ} → Load key iv s → (length key ≤ 255) × (length iv ≤ 255)
 load-short (load-128 kl il e) = (omega arith, omega arith)

@@ -21,6 +21,10 @@ plus a b = (a + b) % 2 ^ 32
 abbrev pub minus : ℕ → ℕ → ℕ
 minus a b = (a + (2 ^ 32 - b)) % 2 ^ 32
 
+-- a state, by its register and b1 and b2
+abbrev pub state-of : List ℕ → ℕ → ℕ → List ℕ
+state-of words b1 b2 = words ++ b1 ∷ b2 ∷ []
+
 -- FSM(a15, b1, b2) (7.2.7)
 abbrev pub fsm : List ℕ → ℕ
 fsm s = plus (at s 15) (at s 16) ⊕ at s 17
@@ -63,6 +67,10 @@ prepared a iv = with-iv a (numbered iv) ++ 0 ∷ 0 ∷ []
 
 abbrev pub started : List ℕ → List ℕ
 started s = step (times 32 feed s)
+
+-- the state that such steps started from
+abbrev pub rewound : List ℕ → List ℕ
+rewound s = times 32 unfeed (unstep s)
 
 abbrev pub snow2-load : List ℕ → List ℕ → Result (List ℕ) Fault
 snow2-load key iv =
