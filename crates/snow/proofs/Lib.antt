@@ -7,3 +7,4 @@ pub mod Starts
 pub mod Snow2Steps
 pub mod Snow2Laws
 pub mod Snow2Parts
+pub mod Snow2Origin

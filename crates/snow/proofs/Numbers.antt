@@ -15,6 +15,7 @@ use Rattle.words.proofs.Words.{fits-reverse}
 use Rattle.words.proofs.Spelled.{spell, spelled}
 use Rattle.words.proofs.Bytes.{bytes-of-bytes, length-bytes, words-of-bytes, words-fit, length-words, bytes-of-words}
 use Rattle.snow.specs.Register.{numbered}
+use Rattle.snow.specs.Origins.{unnumbered}
 
 pub numbered-state : (n : ℕ) (bs : List ℕ) → Bytes bs → length bs ≡ 4 * n → State n (numbered bs)
 numbered-state n bs all len = record { count = length-reverse (words-of bs) ∙ length-words n bs len; fits = fits-reverse (2 ^ 32) (words-of bs) (words-fit bs all) }
@@ -22,10 +23,6 @@ numbered-state n bs all len = record { count = length-reverse (words-of bs) ∙ 
 -- numbered words, written out
 pub numbered-spelled : (n : ℕ) (bs : List ℕ) → length bs ≡ 4 * n → numbered bs ≡ reverse (spell n 0 (words-of bs))
 numbered-spelled n bs len = ap reverse (spelled n (words-of bs) (length-words n bs len))
-
--- the bytes of numbered words
-abbrev pub unnumbered : List ℕ → List ℕ
-unnumbered ws = words-bytes (reverse ws)
 
 pub unnumbered-numbered : (n : ℕ) (bs : List ℕ) → Bytes bs → length bs ≡ 4 * n → unnumbered (numbered bs) ≡ bs
 unnumbered-numbered n bs all len = ap words-bytes (reverse-reverse (words-of bs)) ∙ bytes-of-words n bs all len

@@ -58,7 +58,7 @@ load-says key iv s e = ⊎-elim (λ (a, b, c). load-128 a b c) (λ (a, b, c). lo
         → ((length key ≡ 16) × (length iv ≡ 16) × (s ≡ p)) ⊎ ((length key ≡ 32) × (length iv ≡ 16) × (s ≡ q))
     go key iv s p q e = grind (arith, tells)
 
-says : {key iv s : List ℕ} → Reaches snow2 key iv 0 s → Load key iv s
+pub says : {key iv s : List ℕ} → Reaches snow2 key iv 0 s → Load key iv s
 says {key} {iv} {s} r = load-says key iv s (r .loads ∙ ap Ok (r .arrives))
 
 faults : (key iv : List ℕ) (f : Fault) → snow2-load key iv ≡ Err f → (f ≡ Key 0) ⊎ (f ≡ Iv 0)

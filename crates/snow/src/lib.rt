@@ -10,3 +10,4 @@ pub use refusals::FillFault;
 pub use register::Register;
 pub use register::RegisterGenerator;
 pub use snow2::Snow2;
+pub use snow2::Snow2Generator;

@@ -1,11 +1,12 @@
 // Keys and IVs in the register before the first step, and read off it again.
 ghost use mathlib.Core.Path.{_≡_};
+ghost use Prim.Native.Nat.{_≤_};
 ghost use lib.ListN.{length};
-ghost use Rattle.std.specs.Options.{Cases as BySome};
 ghost use Rattle.std.specs.Orderings.{When};
 ghost use Rattle.snow.specs.Register.{numbered};
 ghost use Rattle.snow.specs.Loading.{expanded-128, expanded-256, with-iv};
-ghost use Rattle.snow.specs.Origins.{key-128, iv-128, key-256, iv-256};
+ghost use Rattle.snow.specs.Origins.{key-128, iv-128, key-256, iv-256, Read};
+use crate::bytes::put_words;
 use crate::bytes::word_at;
 
 // Joined to a word, this inverts every bit.
@@ -111,24 +112,17 @@ fn same(a: [u32; 16], b: [u32; 16]) -> bool
     a == b
 }
 
-// The 128-bit key and the IV that these words hold before the first step, if they hold any.
-pub(crate) fn read_128(a: [u32; 16]) -> Option<([u32; 4], [u32; 4])>
-    ensures { λ r. ⌜ BySome r (with-iv (expanded-128 (key-128 a)) (iv-128 a) ≡ a → ⊥) (λ p. (p .0 ≡ key-128 a) × (p .1 ≡ iv-128 a) × (with-iv (expanded-128 (key-128 a)) (iv-128 a) ≡ a)) ⌝ }
+// The key that a register before the first step would hold, by the inverses of its words.
+fn key_128(a: [u32; 16]) -> [u32; 4]
+    ensures { λ r. ⌜ r ≡ key-128 a ⌝ }
 {
-    let key = [a[0] ^ ONES, a[1] ^ ONES, a[2] ^ ONES, a[3] ^ ONES];
-    let iv = [a[15] ^ key[3], a[12] ^ key[0], a[10] ^ a[2], a[9] ^ a[1]];
-    if same(with_iv(expand_128(key), iv), a) {
-        Some((key, iv))
-    } else {
-        None
-    }
+    [a[0] ^ ONES, a[1] ^ ONES, a[2] ^ ONES, a[3] ^ ONES]
 }
 
-// The 256-bit key and the IV that these words hold before the first step, if they hold any.
-pub(crate) fn read_256(a: [u32; 16]) -> Option<([u32; 8], [u32; 4])>
-    ensures { λ r. ⌜ BySome r (with-iv (expanded-256 (key-256 a)) (iv-256 a) ≡ a → ⊥) (λ p. (p .0 ≡ key-256 a) × (p .1 ≡ iv-256 a) × (with-iv (expanded-256 (key-256 a)) (iv-256 a) ≡ a)) ⌝ }
+fn key_256(a: [u32; 16]) -> [u32; 8]
+    ensures { λ r. ⌜ r ≡ key-256 a ⌝ }
 {
-    let key = [
+    [
         a[0] ^ ONES,
         a[1] ^ ONES,
         a[2] ^ ONES,
@@ -137,16 +131,64 @@ pub(crate) fn read_256(a: [u32; 16]) -> Option<([u32; 8], [u32; 4])>
         a[5] ^ ONES,
         a[6] ^ ONES,
         a[7] ^ ONES,
-    ];
-    let iv = [
-        a[15] ^ key[7],
-        a[12] ^ key[4],
-        a[10] ^ key[2],
-        a[9] ^ key[1],
-    ];
-    if same(with_iv(expand_256(key), iv), a) {
-        Some((key, iv))
-    } else {
-        None
+    ]
+}
+
+// The IV that is then joined to words of the key.
+fn iv_128(a: [u32; 16]) -> [u32; 4]
+    ensures { λ r. ⌜ r ≡ iv-128 a ⌝ }
+{
+    [
+        a[15] ^ (a[3] ^ ONES),
+        a[12] ^ (a[0] ^ ONES),
+        a[10] ^ a[2],
+        a[9] ^ a[1],
+    ]
+}
+
+fn iv_256(a: [u32; 16]) -> [u32; 4]
+    ensures { λ r. ⌜ r ≡ iv-256 a ⌝ }
+{
+    [
+        a[15] ^ (a[7] ^ ONES),
+        a[12] ^ (a[4] ^ ONES),
+        a[10] ^ (a[2] ^ ONES),
+        a[9] ^ (a[1] ^ ONES),
+    ]
+}
+
+// Puts the key and the IV of a register before the first step, with a 128-bit key, at the front of two buffers.
+pub(crate) fn name_128(words: [u32; 16], key: &mut [u8], iv: &mut [u8]) -> Option<(usize, usize)>
+    requires { ⌜ 255 ≤ length (now key) ⌝ }
+    requires { ⌜ 255 ≤ length (now iv) ⌝ }
+    ensures { λ r. ⌜ Read key-128 iv-128 expanded-128 words r (now (key .entry)) (now (iv .entry)) (now (key .exit)) (now (iv .exit)) ⌝ }
+{
+    let mut k = key_128(words);
+    let mut v = iv_128(words);
+    if !same(with_iv(expand_128(k), v), words) {
+        return None;
     }
+    k.reverse();
+    v.reverse();
+    put_words(key, &k);
+    put_words(iv, &v);
+    Some((16, 16))
+}
+
+// The same with a 256-bit key.
+pub(crate) fn name_256(words: [u32; 16], key: &mut [u8], iv: &mut [u8]) -> Option<(usize, usize)>
+    requires { ⌜ 255 ≤ length (now key) ⌝ }
+    requires { ⌜ 255 ≤ length (now iv) ⌝ }
+    ensures { λ r. ⌜ Read key-256 iv-256 expanded-256 words r (now (key .entry)) (now (iv .entry)) (now (key .exit)) (now (iv .exit)) ⌝ }
+{
+    let mut k = key_256(words);
+    let mut v = iv_256(words);
+    if !same(with_iv(expand_256(k), v), words) {
+        return None;
+    }
+    k.reverse();
+    v.reverse();
+    put_words(key, &k);
+    put_words(iv, &v);
+    Some((32, 16))
 }

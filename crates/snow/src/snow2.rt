@@ -2,17 +2,19 @@
 ghost use mathlib.Core.Path.{_≡_};
 ghost use mathlib.Core.List.{List, [], _∷_, _++_};
 ghost use Prim.Native.Nat.{ℕ, _<_, _^_};
+ghost use mathlib.Core.Bool.{cond};
+ghost use lib.Dec.{eqb};
+ghost use Rattle.std.specs.declared.result.Result.the-variants.{Ok, Err};
+ghost use Rattle.generator.specs.declared.Fault.the-variants.{Iv};
 ghost use lib.ListN.{length, getD, replicate};
-ghost use Rattle.generator.specs.Meaning.{times};
 ghost use Rattle.snow.specs.Refusals.{Filled};
-ghost use Rattle.snow.specs.Snow2.{state-of, fsm, clocked, feed, unclocked, unfeed, started, rewound, snow2};
-use crate::bytes::put_words;
+ghost use Rattle.snow.specs.Snow2.{state-of, fsm, clocked, feed, unclocked, unfeed, prepared, started, rewound, snow2};
 use crate::loading::eight_words;
 use crate::loading::expand_128;
 use crate::loading::expand_256;
 use crate::loading::four_words;
-use crate::loading::read_128;
-use crate::loading::read_256;
+use crate::loading::name_128;
+use crate::loading::name_256;
 use crate::loading::with_iv;
 use crate::refusals::FillFault;
 use crate::shifts::feedback;
@@ -118,6 +120,21 @@ impl Snow2 {
         self.clock(new);
     }
 
+    // Loads an expanded key and an IV.
+    fn begin(&mut self, expanded: [u32; 16], iv: &[u8]) -> Result<(), Fault>
+        ensures { λ r. ⌜ cond (eqb (length (now (iv .entry))) 16) ((r ≡ Ok tt) × (state-of (now (self .exit) .words) (now (self .exit) .b1) (now (self .exit) .b2) ≡ started (prepared expanded (now (iv .entry))))) ((r ≡ Err (Iv 0)) × (state-of (now (self .exit) .words) (now (self .exit) .b1) (now (self .exit) .b2) ≡ replicate 18 0)) ⌝ }
+    {
+        self.b1 = 0;
+        self.b2 = 0;
+        if iv.len() != 16 {
+            self.words = [0; 16];
+            return Err(Fault::Iv(0));
+        }
+        self.words = with_iv(expanded, four_words(iv));
+        self.start();
+        Ok(())
+    }
+
     // Back over the steps of a load.
     fn rewind(&mut self)
         ensures { λ _. ⌜ state-of (now (self .exit) .words) (now (self .exit) .b1) (now (self .exit) .b2) ≡ rewound (state-of (now (self .entry) .words) (now (self .entry) .b1) (now (self .entry) .b2)) ⌝ }
@@ -125,6 +142,61 @@ impl Snow2 {
         self.unclock(0);
         for i in 0..32u32 {
             self.unfeed();
+        }
+    }
+}
+
+pub impl Generator for Snow2 as Snow2Generator {
+    ghost meaning = { snow2 };
+
+    ghost state = { λ x. state-of (x .words) (x .b1) (x .b2) };
+
+    fn load(&mut self, key: &[u8], iv: &[u8]) -> Result<(), Fault> {
+        match key.len() {
+            16 => self.begin(expand_128(four_words(key)), iv),
+            32 => self.begin(expand_256(eight_words(key)), iv),
+            _ => {
+                self.clear();
+                Err(Fault::Key(0))
+            }
+        }
+    }
+
+    fn forward(&mut self) {
+        let new = feedback(&self.words);
+        self.clock(new);
+    }
+
+    fn backward(&mut self) {
+        self.unclock(0);
+    }
+
+    fn word(&mut self) -> u32 {
+        self.fsm() ^ self.words[0]
+    }
+
+    fn clear(&mut self) {
+        self.words = [0; 16];
+        self.b1 = 0;
+        self.b2 = 0;
+    }
+
+    fn origin(&mut self, key: &mut [u8], iv: &mut [u8]) -> Result<(usize, usize), OriginFault> {
+        if key.len() < 255 || iv.len() < 255 {
+            return Err(OriginFault::ShortBuffer);
+        }
+        let mut start = *self;
+        start.rewind();
+        if start.b1 != 0 || start.b2 != 0 {
+            return Err(OriginFault::NoOrigin);
+        }
+        let words = start.words;
+        if let Some(lengths) = name_256(words, key, iv) {
+            return Ok(lengths);
+        }
+        match name_128(words, key, iv) {
+            Some(lengths) => Ok(lengths),
+            None => Err(OriginFault::NoOrigin),
         }
     }
 }
