@@ -9,7 +9,9 @@ use Rattle.std.proofs.shelf.Lists.{length-reverse, reverse-reverse}
 use Rattle.generator.specs.declared.Fault.{Fault}
 use Rattle.generator.specs.declared.Fault.the-variants.{Key, Iv}
 use Rattle.generator.specs.Refusals.{member}
-use Rattle.generator.specs.Meaning.{State}
+use Rattle.std.specs.declared.result.Result.the-variants.{Err}
+use Rattle.generator.specs.Meaning.{Meaning, State, zeros}
+use Rattle.generator.specs.Calls.{Loaded}
 use Rattle.words.specs.Words.{Bytes, Words, words-bytes, words-of}
 use Rattle.words.proofs.Words.{fits-reverse}
 use Rattle.words.proofs.Spelled.{spell, spelled}
@@ -39,3 +41,7 @@ numbered-one n bs bs′ all all′ len len′ e = sym (unnumbered-numbered n bs 
 
 pub plain-member : (f : Fault) → (f ≡ Key 0) ⊎ (f ≡ Iv 0) → member f < 16
 plain-member f = ⊎-elim (λ e. subst (λ x. member x < 16) (sym e) (omega arith)) (λ e. subst (λ x. member x < 16) (sym e) (omega arith))
+
+-- a load that is refused, and leaves zero words
+pub loaded-fault : (m : Meaning) (key iv after : List ℕ) (f : Fault) → m .load key iv ≡ Err f → after ≡ zeros m → Loaded m key iv (Err f) after
+loaded-fault m key iv after f e z = rw (e, Loaded) (refl, z)

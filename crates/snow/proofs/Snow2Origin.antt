@@ -5,7 +5,7 @@ use mathlib.Core.List.{List, [], _∷_, _++_, reverse}
 use mathlib.Core.Logic.{_⊎_, inl, inr, ⊎-elim}
 use Prim.Native.Nat.{ℕ, _+_, _*_, _<_, _≤_, _^_}
 use native.Mathlib.Omega.{arith}
-use lib.ListN.{length, getD, drop}
+use lib.ListN.{length, getD, drop, replicate}
 use borrow.Author.Tests.{eq-eqb, ne-eqb}
 use Rattle.std.proofs.shelf.Lists.{append-cancel-right}
 use Rattle.std.specs.declared.option.Option.{Option}
@@ -14,14 +14,16 @@ use Rattle.std.specs.declared.result.Result.{Result}
 use Rattle.std.specs.declared.result.Result.the-variants.{Ok, Err}
 use Rattle.generator.specs.declared.OriginFault.the-variants.{NoOrigin}
 use Rattle.generator.specs.Meaning.{State, Reaches, times}
-use Rattle.generator.specs.Calls.{Named}
+use Rattle.generator.specs.Calls.{Loaded, Named}
+use Rattle.generator.specs.declared.Fault.the-variants.{Key}
 use Rattle.words.specs.Words.{Bytes, words-bytes}
 use Rattle.words.proofs.Bytes.{bytes-of-bytes}
 use Rattle.words.proofs.Spelled.{spelled}
 use Rattle.snow.specs.Register.{at, numbered}
 use Rattle.snow.specs.Loading.{expanded-128, expanded-256, with-iv}
 use Rattle.snow.specs.Origins.{key-128, iv-128, key-256, iv-256, unnumbered, Read}
-use Rattle.snow.specs.Snow2.{state-of, step, feed, unstep, unfeed, prepared, started, rewound, snow2}
+use Rattle.snow.specs.Snow2.{state-of, step, feed, unstep, unfeed, prepared, started, rewound, snow2-load, snow2}
+use Rattle.snow.proofs.Numbers.{loaded-fault}
 use Rattle.snow.proofs.Numbers.{numbered-state, numbered-unnumbered, length-unnumbered}
 use Rattle.snow.proofs.LoadLaws.{held-128, held-256, key-128-state, key-256-state, iv-128-state, iv-256-state, state-128, state-256}
 use Rattle.snow.proofs.Starts.{rewound-started, started-rewound}
@@ -36,6 +38,19 @@ same-parts a b b1 b2 c1 c2 la lb e =
   where
     read : (a : List ℕ) (x y : ℕ) → length a ≡ 16 → (at (state-of a x y) 16 ≡ x) × (at (state-of a x y) 17 ≡ y)
     read a x y len = subst (λ a. (at (state-of a x y) 16 ≡ x) × (at (state-of a x y) 17 ≡ y)) (sym (spelled 16 a len)) (refl, refl)
+
+load-128-is : (key iv : List ℕ) → length key ≡ 16 → length iv ≡ 16 → snow2-load key iv ≡ Ok (started (prepared (expanded-128 (numbered key)) iv))
+load-128-is key iv kl il = rw (eq-eqb (length key) 16 kl, eq-eqb (length iv) 16 il)
+
+load-256-is : (key iv : List ℕ) → length key ≡ 32 → length iv ≡ 16 → snow2-load key iv ≡ Ok (started (prepared (expanded-256 (numbered key)) iv))
+load-256-is key iv kl il = rw (ne-eqb (length key) 16 (λ e. omega arith), eq-eqb (length key) 32 kl, eq-eqb (length iv) 16 il)
+
+-- a key of another length is refused
+pub refused-key : (key iv after : List ℕ) → (length key ≡ 16 → ⊥) → (length key ≡ 32 → ⊥) → after ≡ replicate 18 0 → Loaded snow2 key iv (Err (Key 0)) after
+refused-key key iv after not-16 not-32 e = loaded-fault snow2 key iv after (Key 0) none e
+  where
+    none : snow2-load key iv ≡ Err (Key 0)
+    none = rw (ne-eqb (length key) 16 not-16, ne-eqb (length key) 32 not-32)
 
 module _ (s a : List ℕ) (c1 c2 : ℕ) (st : State 18 s) (sa : State 16 a) (back : state-of a c1 c2 ≡ rewound s) where
   -- what reaches s stands in the register before the first step
@@ -80,8 +95,9 @@ module _ (s a : List ℕ) (c1 c2 : ℕ) (st : State 18 s) (sa : State 16 a) (bac
           key-bytes = bytes-of-bytes (reverse (key-128 a));
           iv-bytes = bytes-of-bytes (reverse (iv-128 a));
           start = s;
-          loads = rw (eq-eqb (length (unnumbered (key-128 a))) 16 lk, eq-eqb (length (unnumbered (iv-128 a))) 16 lv)
-              (ap Ok (ap₂ (λ x y. started (with-iv (expanded-128 x) y ++ 0 ∷ 0 ∷ [])) (numbered-unnumbered (key-128 a) (k .fits)) (numbered-unnumbered (iv-128 a) (v .fits)) ∙ ap (λ x. started (x ++ 0 ∷ 0 ∷ [])) held ∙ restarted));
+          loads =
+              load-128-is (unnumbered (key-128 a)) (unnumbered (iv-128 a)) lk lv
+              ∙ ap Ok (ap₂ (λ x y. started (with-iv (expanded-128 x) y ++ 0 ∷ 0 ∷ [])) (numbered-unnumbered (key-128 a) (k .fits)) (numbered-unnumbered (iv-128 a) (v .fits)) ∙ ap (λ x. started (x ++ 0 ∷ 0 ∷ [])) held ∙ restarted);
           arrives = refl;
         }
 
@@ -95,7 +111,25 @@ module _ (s a : List ℕ) (c1 c2 : ℕ) (st : State 18 s) (sa : State 16 a) (bac
           key-bytes = bytes-of-bytes (reverse (key-256 a));
           iv-bytes = bytes-of-bytes (reverse (iv-256 a));
           start = s;
-          loads = rw (ne-eqb (length (unnumbered (key-256 a))) 16 (λ e. omega arith), eq-eqb (length (unnumbered (key-256 a))) 32 lk, eq-eqb (length (unnumbered (iv-256 a))) 16 lv)
-              (ap Ok (ap₂ (λ x y. started (with-iv (expanded-256 x) y ++ 0 ∷ 0 ∷ [])) (numbered-unnumbered (key-256 a) (k .fits)) (numbered-unnumbered (iv-256 a) (v .fits)) ∙ ap (λ x. started (x ++ 0 ∷ 0 ∷ [])) held ∙ restarted));
+          loads =
+              load-256-is (unnumbered (key-256 a)) (unnumbered (iv-256 a)) lk lv
+              ∙ ap Ok (ap₂ (λ x y. started (with-iv (expanded-256 x) y ++ 0 ∷ 0 ∷ [])) (numbered-unnumbered (key-256 a) (k .fits)) (numbered-unnumbered (iv-256 a) (v .fits)) ∙ ap (λ x. started (x ++ 0 ∷ 0 ∷ [])) held ∙ restarted);
           arrives = refl;
         }
+
+    -- what a register that holds a key and an IV answers
+    pub named-128 : (key iv key₁ iv₁ key-after iv-after : List ℕ) (lengths : ℕ × ℕ) → 255 ≤ length key → 255 ≤ length iv → key₁ ≡ key → iv₁ ≡ iv → Read key-128 iv-128 expanded-128 a (Some lengths) key₁ iv₁ key-after iv-after
+        → Named snow2 0 s key iv (Ok lengths) key-after iv-after
+    named-128 key iv key₁ iv₁ key-after iv-after lengths long long′ kept kept′ (held, e, ek₁, ev₁) =
+        let ek = ek₁ ∙ ap (λ k. unnumbered (key-128 a) ++ drop (4 * length (key-128 a)) k) kept in
+        let ev = ev₁ ∙ ap (λ v. unnumbered (iv-128 a) ++ drop (4 * length (iv-128 a)) v) kept′ in
+        let lk = length-unnumbered (key-128 a) in
+        let lv = length-unnumbered (iv-128 a) in
+        ((long, long′), (unnumbered (key-128 a), unnumbered (iv-128 a), reaches-128 held, e ∙ ap₂ (λ x y. (x, y)) (sym lk) (sym lv), ek ∙ ap (λ n. unnumbered (key-128 a) ++ drop n key) (sym lk), ev ∙ ap (λ n. unnumbered (iv-128 a) ++ drop n iv) (sym lv)))
+
+    pub named-256 : (key iv key-after iv-after : List ℕ) (lengths : ℕ × ℕ) → 255 ≤ length key → 255 ≤ length iv → Read key-256 iv-256 expanded-256 a (Some lengths) key iv key-after iv-after
+        → Named snow2 0 s key iv (Ok lengths) key-after iv-after
+    named-256 key iv key-after iv-after lengths long long′ (held, e, ek, ev) =
+        let lk = length-unnumbered (key-256 a) in
+        let lv = length-unnumbered (iv-256 a) in
+        ((long, long′), (unnumbered (key-256 a), unnumbered (iv-256 a), reaches-256 held, e ∙ ap₂ (λ x y. (x, y)) (sym lk) (sym lv), ek ∙ ap (λ n. unnumbered (key-256 a) ++ drop n key) (sym lk), ev ∙ ap (λ n. unnumbered (iv-256 a) ++ drop n iv) (sym lv)))
