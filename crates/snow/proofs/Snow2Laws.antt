@@ -18,10 +18,10 @@ use Rattle.generator.specs.declared.Fault.the-variants.{Key, Iv}
 use Rattle.generator.specs.Meaning.{Meaning, State, Lawful, Reaches, times}
 use Rattle.words.specs.Words.{_⊕_, AllBelow, Bytes, Words}
 use Rattle.words.proofs.Words.{fits-append}
-use Rattle.snow.specs.Register.{at, numbered}
+use Rattle.snow.specs.Register.{at, numbered, plus}
 use Rattle.snow.specs.Loading.{expanded-128, expanded-256, with-iv}
 use Rattle.snow.specs.Origins.{key-128, iv-128, key-256, iv-256}
-use Rattle.snow.specs.Snow2.{plus, fsm, step, feed, strm, unstep, unfeed, prepared, started, snow2-load, snow2}
+use Rattle.snow.specs.Snow2.{fsm, step, feed, strm, unstep, unfeed, prepared, started, snow2-load, snow2}
 use Rattle.snow.proofs.Numbers.{numbered-state, numbered-one, plain-member}
 use Rattle.snow.proofs.ShiftLaws.{words-of-state}
 use Rattle.snow.proofs.LoadLaws.{state-128, state-256, key-128-back, iv-128-back, key-256-back, iv-256-back, lengths-apart}

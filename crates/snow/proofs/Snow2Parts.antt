@@ -10,8 +10,8 @@ use Rattle.generator.specs.Meaning.{State}
 use Rattle.words.proofs.Words.{fits-append, below-everywhere, all-from-each}
 use Rattle.words.proofs.Spelled.{spelled}
 use Rattle.fields.specs.Mixing.{s1, s1-undone}
-use Rattle.snow.specs.Register.{at, feedback, shifted, unshifted}
-use Rattle.snow.specs.Snow2.{plus, minus, state-of, fsm, clocked, step, strm, unclocked, unstep, b1-before, b2-before}
+use Rattle.snow.specs.Register.{at, feedback, shifted, unshifted, plus, minus}
+use Rattle.snow.specs.Snow2.{state-of, fsm, clocked, step, strm, unclocked, unstep, b1-before, b2-before}
 
 module _ (ws : List ℕ) (len : length ws ≡ 16) (b1 b2 : ℕ) where
   pub fsm-parts : fsm (state-of ws b1 b2) ≡ plus (at ws 15) b1 ⊕ b2

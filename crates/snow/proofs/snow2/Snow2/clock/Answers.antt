@@ -1,8 +1,8 @@
 use mathlib.Core.Path.{sym, ap₂, _∙_}
 use mathlib.Core.List.{[], _∷_}
 use Prim.Native.Nat.{_+_, _%_}
-use Rattle.snow.specs.Register.{at}
-use Rattle.snow.specs.Snow2.{state-of, plus}
+use Rattle.snow.specs.Register.{at, plus}
+use Rattle.snow.specs.Snow2.{state-of}
 use Rattle.snow.proofs.Snow2Parts.{clocked-parts}
 use Rattle.snow.proofs.snow2.Snow2.clock.Needs as need
 

@@ -1,6 +1,6 @@
 use mathlib.Core.Path.{sym, ap₂, _∙_}
-use Rattle.snow.specs.Register.{at}
-use Rattle.snow.specs.Snow2.{state-of, minus}
+use Rattle.snow.specs.Register.{at, minus}
+use Rattle.snow.specs.Snow2.{state-of}
 use Rattle.snow.proofs.Snow2Parts.{unclocked-parts}
 use Rattle.snow.proofs.snow2.Snow2.unclock.Needs as need
 

@@ -1,7 +1,7 @@
 use mathlib.Core.Path.{sym, ap, _∙_}
 use Rattle.words.specs.Words.{_⊕_}
-use Rattle.snow.specs.Register.{at}
-use Rattle.snow.specs.Snow2.{state-of, plus, minus, unclocked, unfeed}
+use Rattle.snow.specs.Register.{at, plus, minus}
+use Rattle.snow.specs.Snow2.{state-of, unclocked, unfeed}
 use Rattle.snow.proofs.Snow2Parts.{fed-before}
 use Rattle.snow.proofs.snow2.Snow2.unfeed.Needs as need
 
