@@ -9,3 +9,6 @@ pub mod Snow2Laws
 pub mod Snow2Parts
 pub mod Snow2Origin
 pub mod Snow3gSteps
+pub mod Snow3gLaws
+pub mod Snow3gParts
+pub mod Snow3gOrigin
