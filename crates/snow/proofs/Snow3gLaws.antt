@@ -75,8 +75,7 @@ load-one {key} {iv} {key′} {iv′} kb ib kb′ ib′ l l′ =
     let k = numbered-state 8 key kb (l .key-long) .count in
     let k′ = numbered-state 8 key′ kb′ (l′ .key-long) .count in
     let v = numbered-state 4 iv ib (l .iv-long) .count in
-    let v′ = numbered-state 4 iv′ ib′ (l′ .iv-long) .count in
-    (
+    let v′ = numbered-state 4 iv′ ib′ (l′ .iv-long) .count in (
       numbered-one 8 key key′ kb kb′ (l .key-long) (l′ .key-long) (sym (key-256-back (numbered key) (numbered iv) k v) ∙ ap key-256 same ∙ key-256-back (numbered key′) (numbered iv′) k′ v′),
       numbered-one 4 iv iv′ ib ib′ (l .iv-long) (l′ .iv-long) (sym (iv-256-back (numbered key) (numbered iv) k v) ∙ ap iv-256 same ∙ iv-256-back (numbered key′) (numbered iv′) k′ v′),
     )

@@ -5,9 +5,12 @@ mod refusals;
 mod register;
 mod shifts;
 mod snow2;
+mod snow3g;
 
 pub use refusals::FillFault;
 pub use register::Register;
 pub use register::RegisterGenerator;
 pub use snow2::Snow2;
 pub use snow2::Snow2Generator;
+pub use snow3g::Snow3g;
+pub use snow3g::Snow3gGenerator;
