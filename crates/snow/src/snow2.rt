@@ -116,8 +116,8 @@ impl Snow2 {
         for i in 0..32u32 {
             self.feed();
         }
-        let new = feedback(&self.words);
-        self.clock(new);
+        let last = feedback(&self.words);
+        self.clock(last);
     }
 
     // Loads an expanded key and an IV.
@@ -140,7 +140,7 @@ impl Snow2 {
         ensures { λ _. ⌜ state-of (now (self .exit) .words) (now (self .exit) .b1) (now (self .exit) .b2) ≡ rewound (state-of (now (self .entry) .words) (now (self .entry) .b1) (now (self .entry) .b2)) ⌝ }
     {
         self.unclock(0);
-        for i in 0..32u32 {
+        for back in 0..32u32 {
             self.unfeed();
         }
     }

@@ -119,8 +119,8 @@ impl Snow3g {
         for i in 0..32u32 {
             self.feed();
         }
-        let new = feedback(&self.words);
-        self.clock(new);
+        let last = feedback(&self.words);
+        self.clock(last);
     }
 
     // Back over the clocks of a load.
@@ -128,7 +128,7 @@ impl Snow3g {
         ensures { λ _. ⌜ state-of (now (self .exit) .words) (now (self .exit) .r1) (now (self .exit) .r2) (now (self .exit) .r3) ≡ rewound (state-of (now (self .entry) .words) (now (self .entry) .r1) (now (self .entry) .r2) (now (self .entry) .r3)) ⌝ }
     {
         self.unclock(0);
-        for i in 0..32u32 {
+        for back in 0..32u32 {
             self.unfeed();
         }
     }

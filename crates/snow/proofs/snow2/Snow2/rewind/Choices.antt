@@ -3,5 +3,5 @@ use Rattle.generator.specs.Meaning.{times}
 use Rattle.snow.specs.Snow2.{state-of, unfeed}
 use Rattle.snow.proofs.snow2.Snow2.rewind.Given as given
 
-abbrev pub Inv-loop-i : given.InvT-loop-i
-Inv-loop-i l = state-of (l .self .words) (l .self .b1) (l .self .b2) ≡ times (l .i) unfeed (state-of (l .entry .self .words) (l .entry .self .b1) (l .entry .self .b2))
+abbrev pub Inv-loop-back : given.InvT-loop-back
+Inv-loop-back l = state-of (l .self .words) (l .self .b1) (l .self .b2) ≡ times (l .back) unfeed (state-of (l .entry .self .words) (l .entry .self .b1) (l .entry .self .b2))

@@ -16,5 +16,5 @@ returns c =
     let end : c .loop-i .i ≡ 32 = omega arith in
     let fed = c .loop-i .inv ∙ ap (λ n. times n feed (state-of (x .words) (x .b1) (x .b2))) end in
     c .clock .ensures
-    ∙ clocked-step (state-of (y .words) (y .b1) (y .b2)) (c .feedback-new .result) (c .feedback-new .ensures ∙ sym (feedback-parts (y .words) (y .count) (y .b1) (y .b2)))
+    ∙ clocked-step (state-of (y .words) (y .b1) (y .b2)) (c .feedback-last .result) (c .feedback-last .ensures ∙ sym (feedback-parts (y .words) (y .count) (y .b1) (y .b2)))
     ∙ ap step fed

@@ -16,5 +16,5 @@ returns c =
     let end : c .loop-i .i ≡ 32 = omega arith in
     let fed = c .loop-i .inv ∙ ap (λ n. times n feed (state-of (x .words) (x .r1) (x .r2) (x .r3))) end in
     c .clock .ensures
-    ∙ clocked-step (state-of (y .words) (y .r1) (y .r2) (y .r3)) (c .feedback-new .result) (c .feedback-new .ensures ∙ sym (feedback-parts (y .words) (y .count) (y .r1) (y .r2) (y .r3)))
+    ∙ clocked-step (state-of (y .words) (y .r1) (y .r2) (y .r3)) (c .feedback-last .result) (c .feedback-last .ensures ∙ sym (feedback-parts (y .words) (y .count) (y .r1) (y .r2) (y .r3)))
     ∙ ap step fed
