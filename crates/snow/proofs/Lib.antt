@@ -12,3 +12,4 @@ pub mod Snow3gSteps
 pub mod Snow3gLaws
 pub mod Snow3gParts
 pub mod Snow3gOrigin
+pub mod Examples

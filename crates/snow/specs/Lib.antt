@@ -4,3 +4,4 @@ pub mod Loading
 pub mod Origins
 pub mod Snow2
 pub mod Snow3g
+pub mod Specimens

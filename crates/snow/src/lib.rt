@@ -6,6 +6,7 @@ mod register;
 mod shifts;
 mod snow2;
 mod snow3g;
+mod specimens;
 
 pub use refusals::FillFault;
 pub use register::Register;
@@ -14,3 +15,4 @@ pub use snow2::Snow2;
 pub use snow2::Snow2Generator;
 pub use snow3g::Snow3g;
 pub use snow3g::Snow3gGenerator;
+pub use specimens::specimens_hold;
