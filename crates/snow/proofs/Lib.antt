@@ -8,3 +8,4 @@ pub mod Snow2Steps
 pub mod Snow2Laws
 pub mod Snow2Parts
 pub mod Snow2Origin
+pub mod Labelled
