@@ -53,3 +53,29 @@ pub fn label<'a>(key: &'a [u8], iv: &'a [u8], number: usize) -> Result<&'a [u8],
         Err(LabelFault::NoSuchNumber)
     }
 }
+
+#[cfg(test)]
+mod tests {
+    use super::*;
+    use std::test::*;
+
+    // The last byte of the word with this number, or the number of the refusal.
+    fn answer(number: usize) -> u8 {
+        let key = [0; 16];
+        let iv = [0, 0, 0, 0x24, 0, 0, 0, 0x23, 0, 0, 0, 0x22, 0, 0, 0, 0x21];
+        match label(&key, &iv, number) {
+            Ok(part) => match part.last() {
+                Some(byte) => *byte,
+                None => 0,
+            },
+            Err(fault) => fault.number(),
+        }
+    }
+
+    #[test]
+    fn word_0_comes_last() -> Result<(), Fail> {
+        check_eq(answer(4), 0x21)?;
+        check_eq(answer(7), 0x24)?;
+        check_eq(answer(8), 13)
+    }
+}
