@@ -1,4 +1,4 @@
--- Labels: a label is the number under which a word of a key or an IV is asked for. Assumes nothing.
+-- Labels of the words of a key and an IV. Assumes nothing.
 use mathlib.Core.Path.{_≡_}
 use mathlib.Core.Bool.{Bool, true, false, cond}
 use mathlib.Core.List.{List, [], _∷_}
@@ -36,7 +36,8 @@ abbrev pub Answered : List ℕ → ℕ → Result (RefT (List ℕ)) LabelFault �
 Answered bytes i (Ok part) = Part bytes i (now part)
 Answered bytes i (Err fault) = ⊥
 
--- what a label answers: the words of a key of 16 or 32 bytes come first, k0 onward, then those of an IV of 16, IV0 to IV3
+-- A label is the number under which a word of a key or an IV is asked for: first the words of a key of 16 or 32 bytes, k0 onward, then those of
+-- an IV of 16 bytes, IV0 to IV3.
 abbrev pub Labelled : List ℕ → List ℕ → ℕ → Result (RefT (List ℕ)) LabelFault → Type 0
 Labelled key iv number r =
     cond (cond (eqb (length key) 16) true (eqb (length key) 32))

@@ -1,4 +1,4 @@
-// Labels: a label is the number under which a word of a key or an IV is asked for.
+// Labels of the words of a key and an IV.
 ghost use mathlib.Core.Path.{_≡_};
 ghost use Prim.Native.Nat.{_/_, _%_, _<_};
 ghost use lib.ListN.{length};
@@ -34,7 +34,7 @@ fn part(bytes: &[u8], i: usize) -> &[u8]
     &bytes[at..at + 4]
 }
 
-// The four bytes of the word with this number: k0 onward, then IV0 to IV3.
+// A label is the number under which a word of a key or an IV is asked for: k0 onward, then IV0 to IV3. The answer is the word's four bytes.
 pub fn label<'a>(key: &'a [u8], iv: &'a [u8], number: usize) -> Result<&'a [u8], LabelFault>
     ensures { λ r. ⌜ Labelled (now (key .entry)) (now (iv .entry)) number r ⌝ }
 {
