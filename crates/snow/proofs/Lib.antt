@@ -13,3 +13,4 @@ pub mod Snow3gLaws
 pub mod Snow3gParts
 pub mod Snow3gOrigin
 pub mod Examples
+pub mod Labelled

@@ -5,3 +5,4 @@ pub mod Origins
 pub mod Snow2
 pub mod Snow3g
 pub mod Specimens
+pub mod Labels

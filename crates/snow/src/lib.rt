@@ -1,5 +1,6 @@
 // SNOW 2.0, SNOW 3G with 256-bit keys and the bare register, as keystream generators.
 mod bytes;
+mod labels;
 mod loading;
 mod refusals;
 mod register;
@@ -8,6 +9,8 @@ mod snow2;
 mod snow3g;
 mod specimens;
 
+pub use labels::LabelFault;
+pub use labels::label;
 pub use refusals::FillFault;
 pub use register::Register;
 pub use register::RegisterGenerator;

@@ -64,6 +64,33 @@ impl Snow2 {
         Ok(())
     }
 
+    // The words a0 to a15, b1, b2.
+    pub fn words(&self) -> [u32; 18]
+        ensures { λ r. ⌜ r ≡ state-of (now (self .entry) .words) (now (self .entry) .b1) (now (self .entry) .b2) ⌝ }
+    {
+        let a = self.words;
+        [
+            a[0],
+            a[1],
+            a[2],
+            a[3],
+            a[4],
+            a[5],
+            a[6],
+            a[7],
+            a[8],
+            a[9],
+            a[10],
+            a[11],
+            a[12],
+            a[13],
+            a[14],
+            a[15],
+            self.b1,
+            self.b2,
+        ]
+    }
+
     fn fsm(&self) -> u32
         ensures { λ r. ⌜ r ≡ fsm (state-of (now (self .entry) .words) (now (self .entry) .b1) (now (self .entry) .b2)) ⌝ }
     {
@@ -82,7 +109,7 @@ impl Snow2 {
     }
 
     // A step in INIT mode.
-    fn feed(&mut self)
+    pub fn feed(&mut self)
         ensures { λ _. ⌜ state-of (now (self .exit) .words) (now (self .exit) .b1) (now (self .exit) .b2) ≡ feed (state-of (now (self .entry) .words) (now (self .entry) .b1) (now (self .entry) .b2)) ⌝ }
     {
         let new = feedback(&self.words) ^ self.fsm();
@@ -100,7 +127,8 @@ impl Snow2 {
         self.b2 = b2;
     }
 
-    fn unfeed(&mut self)
+    // Back over a step in INIT mode.
+    pub fn unfeed(&mut self)
         ensures { λ _. ⌜ state-of (now (self .exit) .words) (now (self .exit) .b1) (now (self .exit) .b2) ≡ unfeed (state-of (now (self .entry) .words) (now (self .entry) .b1) (now (self .entry) .b2)) ⌝ }
     {
         let b1 = s1_inverse(self.b2);
