@@ -21,7 +21,7 @@ use Rattle.generator.specs.declared.Fault.{Fault}
 use Rattle.session.specs.View.{View, shut, moved, ahead, behind, stream-byte}
 use Rattle.session.specs.Calls.{Opened, Joined}
 use Rattle.history.specs.Laws.{Opening, Event, opened, piece, stray, onward, back, ended, unchanged, Call, open-accepted, open-refused, apply-piece, apply-stray, apply-refused, elsewhere-accepted, elsewhere-refused, skip-accepted, skip-refused, back-accepted, back-refused, ask, close-accepted, close-refused, After, made, then, lasting, Under, gone-on, gone-back, covers, strays}
-use Rattle.session.proofs.Repeats.{times-add, back-again}
+use Rattle.generator.proofs.Repeats.{times-add, back-again}
 
 ok-err : {A E : Type 0} {x : A} {e : E} → _≡_ {A = Result A E} (Ok x) (Err e) → ⊥
 ok-err p = let z : _≡_ {A = ℕ} 0 1 = cc in omega arith

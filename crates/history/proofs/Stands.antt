@@ -24,7 +24,7 @@ use Rattle.session.specs.declared.refusals.TraceFault.the-variants.{ShortBuffer
 use Rattle.session.specs.View.{View, stream-byte}
 use Rattle.session.specs.Calls.{OriginOf, Joined, Traced, from-origin, from-trace}
 use Rattle.history.specs.Laws.{Session-laws, Opening, Event, Keystream, SameKeyIv}
-use Rattle.session.proofs.Repeats.{times-even, trace-one}
+use Rattle.generator.proofs.Repeats.{times-even, trace-one}
 use Rattle.history.proofs.Standing.{Kept, key-byte, kept, emptied, gone-by, bounded}
 
 xor-twice : (b x : ℕ) → bitXor (bitXor x b) b ≡ x

@@ -137,3 +137,44 @@ state-128 k v sk sv =
       count = four (λ k. length (with-iv (expanded-128 k) v) ≡ 16) k (sk .count) refl;
       fits = with-iv-fit (expanded-128 k) v (fits-append (2 ^ 32) (map inverted k) _ inv (fits-append (2 ^ 32) k _ (sk .fits) (fits-append (2 ^ 32) (map inverted k) k inv (sk .fits)))) (sv .fits);
     }
+
+-- a register that holds a key and an IV is made of what is read off it
+pub held-256 : (a k v : List ℕ) → length k ≡ 8 → length v ≡ 4 → a ≡ with-iv (expanded-256 k) v → with-iv (expanded-256 (key-256 a)) (iv-256 a) ≡ a
+held-256 a k v lk lv e =
+    ap₂ (λ k v. with-iv (expanded-256 k) v) (ap key-256 e ∙ key-256-back k v lk lv) (ap iv-256 e ∙ iv-256-back k v lk lv) ∙ sym e
+
+pub held-128 : (a k v : List ℕ) → length k ≡ 4 → length v ≡ 4 → a ≡ with-iv (expanded-128 k) v → with-iv (expanded-128 (key-128 a)) (iv-128 a) ≡ a
+held-128 a k v lk lv e =
+    ap₂ (λ k v. with-iv (expanded-128 k) v) (ap key-128 e ∙ key-128-back k v lk lv) (ap iv-128 e ∙ iv-128-back k v lk lv) ∙ sym e
+
+-- what is read off sixteen words is words
+sixteen : (P : List ℕ → Type 0) (s : List ℕ) → length s ≡ 16 → P (spell 16 0 s) → P s
+sixteen P s len = subst P (sym (spelled 16 s len))
+
+pub key-256-state : (a : List ℕ) → State 16 a → State 8 (key-256 a)
+key-256-state a st = record {
+  count = sixteen (λ a. length (key-256 a) ≡ 8) a (st .count) refl;
+  fits = inverted-fit (take 8 a) (sixteen (λ a. Words (take 8 a)) a (st .count) (fits-spell (2 ^ 32) 8 0 a (at-below (2 ^ 32) a (omega arith) (st .fits))));
+}
+
+pub key-128-state : (a : List ℕ) → State 16 a → State 4 (key-128 a)
+key-128-state a st = record {
+  count = sixteen (λ a. length (key-128 a) ≡ 4) a (st .count) refl;
+  fits = inverted-fit (take 4 a) (sixteen (λ a. Words (take 4 a)) a (st .count) (fits-spell (2 ^ 32) 4 0 a (at-below (2 ^ 32) a (omega arith) (st .fits))));
+}
+
+pub iv-256-state : (a : List ℕ) → State 16 a → State 4 (iv-256 a)
+iv-256-state a st =
+    let w = at-below (2 ^ 32) a (omega arith) (st .fits) in
+    record {
+      count = refl;
+      fits = (xor-lt 32 (at a 15) (inverted (at a 7)) (w 15) (inverted-below (at a 7) (w 7)), (xor-lt 32 (at a 12) (inverted (at a 4)) (w 12) (inverted-below (at a 4) (w 4)), (xor-lt 32 (at a 10) (inverted (at a 2)) (w 10) (inverted-below (at a 2) (w 2)), (xor-lt 32 (at a 9) (inverted (at a 1)) (w 9) (inverted-below (at a 1) (w 1)), tt))));
+    }
+
+pub iv-128-state : (a : List ℕ) → State 16 a → State 4 (iv-128 a)
+iv-128-state a st =
+    let w = at-below (2 ^ 32) a (omega arith) (st .fits) in
+    record {
+      count = refl;
+      fits = (xor-lt 32 (at a 15) (inverted (at a 3)) (w 15) (inverted-below (at a 3) (w 3)), (xor-lt 32 (at a 12) (inverted (at a 0)) (w 12) (inverted-below (at a 0) (w 0)), (xor-lt 32 (at a 10) (at a 2) (w 10) (w 2), (xor-lt 32 (at a 9) (at a 1) (w 9) (w 1), tt))));
+    }

@@ -20,7 +20,8 @@ use Rattle.words.proofs.Words.{fits-append}
 use Rattle.words.proofs.Spelled.{spell, fits-spell}
 use Rattle.fields.specs.Alpha.{over-alpha}
 use Rattle.snow.specs.Register.{at, feedback, shifted, unshifted, numbered, register-load, register}
-use Rattle.snow.proofs.Numbers.{numbered-state, numbered-one, plain-member, unnumbered, numbered-unnumbered, length-unnumbered}
+use Rattle.snow.specs.Origins.{unnumbered}
+use Rattle.snow.proofs.Numbers.{numbered-state, numbered-one, plain-member, numbered-unnumbered, length-unnumbered}
 use Rattle.snow.proofs.ShiftLaws.{feedback-below, dropped-below, plain-back, plain-again, words-of-state}
 
 register-next-state : {s : List ℕ} → State 16 s → State 16 (register .next s)

@@ -12,8 +12,8 @@ use Rattle.fields.specs.Alpha.{over-alpha}
 use Rattle.fields.specs.Mixing.{s1, s1-undone}
 use Rattle.fields.proofs.WordBoxes.{s1-inverse}
 use Rattle.generator.specs.Meaning.{State}
-use Rattle.snow.specs.Register.{at, feedback, shifted, unshifted}
-use Rattle.snow.specs.Snow2.{plus, minus, fsm, clocked, step, feed, strm, b1-before, b2-before, unclocked, unstep, unfeed}
+use Rattle.snow.specs.Register.{at, feedback, shifted, unshifted, plus, minus}
+use Rattle.snow.specs.Snow2.{fsm, clocked, step, feed, strm, b1-before, b2-before, unclocked, unstep, unfeed}
 use Rattle.snow.proofs.ShiftLaws.{feedback-below, dropped-below, dropped-back, shifted-again, plain-back, plain-again, words-of-state}
 
 pub plus-below : (a b : ℕ) → plus a b < 2 ^ 32

@@ -1,7 +1,7 @@
 -- The shift register of SNOW 2.0 and SNOW 3G, sixteen words a0 to a15, and the generator that it is by itself. Assumes nothing.
 use mathlib.Core.Bool.{Bool, true, false, cond}
 use mathlib.Core.List.{List, [], _∷_, _++_, reverse}
-use Prim.Native.Nat.{ℕ}
+use Prim.Native.Nat.{ℕ, _+_, _-_, _%_, _^_}
 use lib.Dec.{eqb}
 use lib.ListN.{length, getD, take, drop}
 use Rattle.std.specs.declared.result.Result.{Result}
@@ -15,6 +15,13 @@ use Rattle.generator.specs.Meaning.{Meaning}
 -- word i of a state
 abbrev pub at : List ℕ → ℕ → ℕ
 at s i = getD s i 0
+
+-- sums and differences of words; the carry out is dropped
+abbrev pub plus : ℕ → ℕ → ℕ
+plus a b = (a + b) % 2 ^ 32
+
+abbrev pub minus : ℕ → ℕ → ℕ
+minus a b = (a + (2 ^ 32 - b)) % 2 ^ 32
 
 -- αa0 ⊕ a2 ⊕ α⁻¹a11 (ISO/IEC 18033-4:2005, 7.2.2, step 4; ETSI/SAGE SNOW 3G 256 v0.3, 3.4.5)
 abbrev pub feedback : List ℕ → ℕ

@@ -1,7 +1,7 @@
 -- SNOW 2.0 (ISO/IEC 18033-4:2005, 7.2): eighteen words a0 to a15, b1, b2. Assumes nothing.
 use mathlib.Core.Bool.{Bool, true, false, cond}
 use mathlib.Core.List.{List, [], _∷_, _++_}
-use Prim.Native.Nat.{ℕ, _+_, _-_, _%_, _^_}
+use Prim.Native.Nat.{ℕ}
 use lib.Dec.{eqb}
 use lib.ListN.{length}
 use Rattle.std.specs.declared.result.Result.{Result}
@@ -11,15 +11,12 @@ use Rattle.fields.specs.Mixing.{s1, s1-undone}
 use Rattle.generator.specs.declared.Fault.{Fault}
 use Rattle.generator.specs.declared.Fault.the-variants.{Key, Iv}
 use Rattle.generator.specs.Meaning.{Meaning, times}
-use Rattle.snow.specs.Register.{at, feedback, shifted, unshifted, numbered}
+use Rattle.snow.specs.Register.{at, plus, minus, feedback, shifted, unshifted, numbered}
 use Rattle.snow.specs.Loading.{expanded-128, expanded-256, with-iv}
 
--- sums and differences of words; the carry out is dropped
-abbrev pub plus : ℕ → ℕ → ℕ
-plus a b = (a + b) % 2 ^ 32
-
-abbrev pub minus : ℕ → ℕ → ℕ
-minus a b = (a + (2 ^ 32 - b)) % 2 ^ 32
+-- a state, by its register and b1 and b2
+abbrev pub state-of : List ℕ → ℕ → ℕ → List ℕ
+state-of words b1 b2 = words ++ b1 ∷ b2 ∷ []
 
 -- FSM(a15, b1, b2) (7.2.7)
 abbrev pub fsm : List ℕ → ℕ
@@ -63,6 +60,10 @@ prepared a iv = with-iv a (numbered iv) ++ 0 ∷ 0 ∷ []
 
 abbrev pub started : List ℕ → List ℕ
 started s = step (times 32 feed s)
+
+-- the state that such steps started from
+abbrev pub rewound : List ℕ → List ℕ
+rewound s = times 32 unfeed (unstep s)
 
 abbrev pub snow2-load : List ℕ → List ℕ → Result (List ℕ) Fault
 snow2-load key iv =

@@ -1,7 +1,8 @@
 // Steps of sixteen words, the register that SNOW 2.0 and SNOW 3G share.
 ghost use mathlib.Core.Path.{_≡_};
 ghost use mathlib.Core.List.{_∷_};
-ghost use lib.ListN.{take};
+ghost use Prim.Native.Nat.{_≤_};
+ghost use lib.ListN.{length, take};
 ghost use Rattle.words.specs.Words.{_⊕_};
 ghost use Rattle.fields.specs.Alpha.{over-alpha};
 ghost use Rattle.snow.specs.Register.{at, feedback, shifted, unshifted};
@@ -98,4 +99,13 @@ pub(crate) fn shift_out(words: [u32; 16], fed: u32) -> [u32; 16]
         a13,
         a14,
     ]
+}
+
+pub(crate) fn first_sixteen(words: &[u32]) -> [u32; 16]
+    requires { ⌜ 16 ≤ length (now words) ⌝ }
+    ensures { λ r. ⌜ r ≡ take 16 (now (words .entry)) ⌝ }
+{
+    let mut front = [0u32; 16];
+    front.copy_from_slice(&words[0..16]);
+    front
 }

@@ -1,7 +1,7 @@
 use mathlib.Core.Path.{sym, ap, subst, _∙_}
 use Rattle.generator.specs.Meaning.{times}
 use Rattle.generator.specs.Calls.{Named}
-use Rattle.session.proofs.Repeats.{named-from, next-again}
+use Rattle.generator.proofs.Repeats.{named-from, next-again}
 use Rattle.session.proofs.steps.origin_before.Needs as need
 
 pub returns : need.returns

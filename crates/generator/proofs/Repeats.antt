@@ -28,12 +28,12 @@ root r = record { key-bytes = r .key-bytes; iv-bytes = r .iv-bytes; start = r .s
 
 -- g keeps the states of a size, and f takes g back
 module _ (size : ℕ) (f g : List ℕ → List ℕ) (keeps : (s : List ℕ) → State size s → State size (g s)) (undoes : (s : List ℕ) → State size s → f (g s) ≡ s) where
-  kept-state : (n : ℕ) (s : List ℕ) → State size s → State size (times n g s)
+  pub kept-state : (n : ℕ) (s : List ℕ) → State size s → State size (times n g s)
   kept-state zero s st = st
   kept-state (suc n) s st = keeps (times n g s) (kept-state n s st)
 
   -- k of n + k steps taken back
-  undone : (k n : ℕ) (s : List ℕ) → State size s → times k f (times (n + k) g s) ≡ times n g s
+  pub undone : (k n : ℕ) (s : List ℕ) → State size s → times k f (times (n + k) g s) ≡ times n g s
   undone zero n s st = ap (λ a. times a g s) (add-zero n)
   undone (suc k) n s st =
       let moved : n + suc k ≡ suc n + k = omega arith in

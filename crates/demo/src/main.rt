@@ -1,0 +1,17 @@
+// Tasks from start to end, printed so that a person can follow them.
+use std::error::AnyError;
+
+mod piles;
+mod registers;
+mod sessions;
+mod show;
+
+fn demonstrate(rt: &LibcRuntime) -> Result<(), AnyError> {
+    registers::demonstrate(rt)?;
+    piles::demonstrate(rt)?;
+    sessions::demonstrate(rt)
+}
+
+fn main(rt: LibcRuntime) -> Result<(), AnyError> {
+    rt.report(demonstrate(&rt))
+}
