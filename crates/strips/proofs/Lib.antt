@@ -2,3 +2,4 @@ pub mod Puts
 pub mod Answering
 pub mod Turning
 pub mod Recording
+pub mod Sheeting

@@ -17,7 +17,7 @@ use Rattle.session.specs.declared.refusals.Refusal.{Refusal}
 use Rattle.session.specs.View.{View, shut}
 use Rattle.history.specs.Laws.{Event, After, made, then, open-accepted, open-refused, elsewhere-accepted, elsewhere-refused, skip-accepted, skip-refused, back-accepted, back-refused, ask, close-accepted, close-refused}
 use Rattle.strips.specs.declared.stops.Stop.{Stop}
-use Rattle.strips.specs.declared.stops.Stop.the-variants.{BadLength, CutShort, BadWord, NoRoom}
+use Rattle.strips.specs.declared.stops.Stop.the-variants.{BadLength, CutShort, BadWord, NoRoom, UnknownGenerator}
 use Rattle.strips.specs.declared.stops.Report.{Report}
 use Rattle.strips.specs.Stops.{stop-number}
 use Rattle.strips.specs.Orders.{Asked}
@@ -67,6 +67,7 @@ stop-reply-is : (strip : List ℕ) (place : ℕ) (s : Stop) → reads strip plac
 stop-reply-is strip place BadLength e = refl
 stop-reply-is strip place CutShort e = refl
 stop-reply-is strip place BadWord e = refl
+stop-reply-is strip place UnknownGenerator e = refl
 stop-reply-is strip place NoRoom e = absurd (read-any strip place e)
 
 -- the record of a run that stops, and of one that comes to the end

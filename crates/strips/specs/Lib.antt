@@ -7,3 +7,4 @@ pub mod Answered
 pub mod Runs
 pub mod Turns
 pub mod Records
+pub mod Sheets

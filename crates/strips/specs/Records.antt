@@ -12,7 +12,7 @@ use Rattle.session.specs.declared.refusals.Refusal.{Refusal}
 use Rattle.session.specs.View.{View}
 use Rattle.history.specs.Laws.{Event, opened, onward, back, ended, unchanged, After}
 use Rattle.strips.specs.declared.stops.Stop.{Stop}
-use Rattle.strips.specs.declared.stops.Stop.the-variants.{BadLength, CutShort, BadWord, NoRoom}
+use Rattle.strips.specs.declared.stops.Stop.the-variants.{BadLength, CutShort, BadWord, NoRoom, UnknownGenerator}
 use Rattle.strips.specs.declared.stops.Report.{Report}
 use Rattle.strips.specs.Orders.{Asked, ending, opening, applying, skipping, going-back, placing, naming, closing}
 use Rattle.strips.specs.Reading.{order, reads}
@@ -49,6 +49,7 @@ stop-reply (Some BadLength) place = refusal-reply 14 0 place
 stop-reply (Some CutShort) place = refusal-reply 15 0 place
 stop-reply (Some BadWord) place = refusal-reply 16 0 place
 stop-reply (Some NoRoom) place = []
+stop-reply (Some UnknownGenerator) place = refusal-reply 18 0 place
 
 -- A run is a record of the calls of one session from its making on. Its replies are one for each finished order, in order, and then that of
 -- the stop.

@@ -5,8 +5,10 @@ mod cursor;
 mod orders;
 mod replies;
 mod runs;
+mod sheets;
 mod stops;
 
 pub use runs::run;
+pub use sheets::answer_sheet;
 pub use stops::Report;
 pub use stops::Stop;

@@ -1,14 +1,15 @@
 // Runs of strips.
 ghost use mathlib.Core.Path.{_≡_};
-ghost use mathlib.Core.List.{List};
+ghost use mathlib.Core.List.{List, _++_};
 ghost use Prim.Native.Nat.{ℕ, _+_, _≤_};
-ghost use lib.ListN.{length};
+ghost use lib.ListN.{length, drop};
+ghost use Rattle.std.specs.declared.option.Option.the-variants.{Some};
 ghost use Rattle.session.specs.View.{view, shut};
 ghost use Rattle.history.specs.Laws.{Session-laws};
 ghost use Rattle.strips.specs.Orders.{asked};
 ghost use Rattle.strips.specs.Replies.{put-at};
 ghost use Rattle.strips.specs.Answered.{in-buffer};
-ghost use Rattle.strips.specs.Runs.{Progress, refusals, reply-to, RunOf, Ran};
+ghost use Rattle.strips.specs.Runs.{Progress, refusals, reply-to, start, with-stop, report-of, bad-length, RunOf, Ran};
 ghost use Rattle.strips.specs.Records.{Recorded};
 ghost use Rattle.strips.specs.Turns.{Holds, Turned, Between, Onward, HasRoom};
 use crate::answers::answer;
@@ -124,6 +125,27 @@ fn run_orders<G: Generator>(
     }
 }
 
+// Whether these are not whole words, or too many.
+pub(crate) fn is_bad_length(bytes: &[u8]) -> bool
+    ensures { λ r. ⌜ r ≡ bad-length (now (bytes .entry)) ⌝ }
+{
+    bytes.len() % 4 != 0 || bytes.len() > MOST_BYTES
+}
+
+// Stops before the first order, with one refusal.
+pub(crate) fn refuse(stop: Stop, replies: &mut [u8]) -> Report
+    requires { ⌜ 4 ≤ length (now replies) ⌝ }
+    ensures report { λ r. ⌜ r ≡ report-of (Some stop) (with-stop start stop) ⌝ }
+    ensures replies { λ _. ⌜ now (replies .exit) ≡ with-stop start stop .out ++ drop 4 (now (replies .entry)) ⌝ }
+{
+    Report {
+        stopped: Some(stop),
+        words: 0,
+        bytes: put_refusal(replies, 0, stop.number(), 0, 0),
+        refused: 0,
+    }
+}
+
 // Runs a strip over the generator: puts its orders to a session of its own, and writes the replies at the front of a buffer.
 pub fn run<G: Generator + Drop>(generator: G, strip: &[u8], replies: &mut [u8]) -> Report
     ensures ran { λ r. ⌜ RunOf (G·Generator .meaning) (now (strip .entry)) (now (replies .entry)) r (now (replies .exit)) ⌝ }
@@ -131,21 +153,10 @@ pub fn run<G: Generator + Drop>(generator: G, strip: &[u8], replies: &mut [u8]) 
     ensures laws { λ _. ⌜ Session-laws (G·Generator .meaning) ⌝ }
 {
     if replies.len() < 4 {
-        return Report {
-            stopped: Some(Stop::NoRoom),
-            words: 0,
-            bytes: 0,
-            refused: 0,
-        };
+        return Report::without_room();
     }
-    if strip.len() % 4 != 0 || strip.len() > MOST_BYTES {
-        let stop = Stop::BadLength;
-        return Report {
-            stopped: Some(stop),
-            words: 0,
-            bytes: put_refusal(replies, 0, stop.number(), 0, 0),
-            refused: 0,
-        };
+    if is_bad_length(strip) {
+        return refuse(Stop::BadLength, replies);
     }
     let mut session = Session::new(generator);
     let mut scratch = [0; MOST_BYTES];

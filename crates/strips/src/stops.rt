@@ -1,5 +1,8 @@
 // Why a run stopped, and what it reports.
 ghost use mathlib.Core.Path.{_≡_};
+ghost use Rattle.std.specs.declared.option.Option.the-variants.{Some};
+ghost use Rattle.strips.specs.declared.stops.Stop.the-variants.{NoRoom};
+ghost use Rattle.strips.specs.Runs.{report-of, start};
 ghost use Rattle.strips.specs.Stops.{stop-number, outcome-number};
 
 // Why a run of a strip stopped before its end.
@@ -13,6 +16,8 @@ pub enum Stop {
     BadWord,
     // too few reply bytes are left
     NoRoom,
+    // the first word of a sheet names no generator
+    UnknownGenerator,
 }
 
 impl Stop {
@@ -25,6 +30,7 @@ impl Stop {
             Stop::CutShort => 15,
             Stop::BadWord => 16,
             Stop::NoRoom => 17,
+            Stop::UnknownGenerator => 18,
         }
     }
 }
@@ -43,6 +49,18 @@ pub struct Report {
 }
 
 impl Report {
+    // No room for a reply, and nothing done.
+    pub(crate) fn without_room() -> Report
+        ensures { λ r. ⌜ r ≡ report-of (Some NoRoom) start ⌝ }
+    {
+        Report {
+            stopped: Some(Stop::NoRoom),
+            words: 0,
+            bytes: 0,
+            refused: 0,
+        }
+    }
+
     // The number of the stop, and 0 at the end.
     pub fn number(&self) -> u8
         ensures { λ r. ⌜ r ≡ outcome-number (now (self .entry) .stopped) ⌝ }
