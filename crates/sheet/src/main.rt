@@ -3,6 +3,9 @@ use std::io;
 use std::io::Read;
 use std::io::Write;
 
+#[cfg(test)]
+mod tests;
+
 // One byte more than the longest sheet, so that a longer one is seen and refused.
 const MOST_READ: u64 = 64_001;
 
