@@ -1,10 +1,10 @@
 -- What a session's calls say of the orders put to it. Assumes nothing.
-use mathlib.Core.Path.{_≡_, refl, sym, ap, subst, _∙_}
+use mathlib.Core.Path.{_≡_, sym, ap, subst, _∙_}
 use mathlib.Core.Bool.{Bool, true, false, cond}
-use mathlib.Core.List.{List, [], _∷_, _++_}
+use mathlib.Core.List.{List, []}
 use Prim.Native.Nat.{ℕ, _+_, _/_, _≤_}
 use native.Mathlib.Omega.{arith}
-use lib.ListN.{length, take, drop, replicate}
+use lib.ListN.{length, drop}
 use Rattle.std.proofs.shelf.Lists.{length-append}
 use Rattle.std.specs.Results.{ErrBy, isErr}
 use Rattle.std.proofs.shelf.Results.{err-from-errBy}

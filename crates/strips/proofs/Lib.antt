@@ -3,3 +3,5 @@ pub mod Answering
 pub mod Turning
 pub mod Recording
 pub mod Sheeting
+pub mod Headings
+pub mod Shorts

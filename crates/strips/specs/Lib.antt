@@ -6,5 +6,6 @@ pub mod Replies
 pub mod Answered
 pub mod Runs
 pub mod Turns
+pub mod ReadBack
 pub mod Records
 pub mod Sheets

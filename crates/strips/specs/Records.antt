@@ -1,6 +1,6 @@
 -- What holds of every run, over every generator: a run is a record of one session's calls. Assumes nothing.
 use mathlib.Core.Path.{_≡_}
-use mathlib.Core.List.{List, [], _∷_, _++_}
+use mathlib.Core.List.{List, [], _∷_, _++_, map}
 use Prim.Native.Nat.{ℕ, _+_}
 use lib.ListN.{length, drop}
 use Rattle.std.specs.declared.option.Option.{Option}
@@ -18,6 +18,7 @@ use Rattle.strips.specs.Orders.{Asked, ending, opening, applying, skipping, go
 use Rattle.strips.specs.Reading.{order, reads}
 use Rattle.strips.specs.Replies.{refusal-reply}
 use Rattle.strips.specs.Runs.{Finished, reply-to, refusals}
+use Rattle.strips.specs.ReadBack.{ReadBack, heading-of}
 
 -- what a call came to: e where the session accepted it
 abbrev pub if-accepted : Event → Result (List ℕ) Refusal → List Event
@@ -52,7 +53,7 @@ stop-reply (Some NoRoom) place = []
 stop-reply (Some UnknownGenerator) place = refusal-reply 18 0 place
 
 -- A run is a record of the calls of one session from its making on. Its replies are one for each finished order, in order, and then that of
--- the stop.
+-- the stop. Read back, each reply is of its order's kind, or a refusal with the number of its order's first word.
 pub record Recorded (m : Meaning) (strip before : List ℕ) (r : Report) (after : List ℕ) : Type 0 where
   pub finished : List Finished
   pub events : List Event
@@ -60,4 +61,5 @@ pub record Recorded (m : Meaning) (strip before : List ℕ) (r : Report) (after 
   pub out : List ℕ
   pub orders : Orders strip finished (r .words) (r .refused) events out
   pub calls : After m events view []
+  pub read-back : ReadBack out (map heading-of finished)
   pub replies : after ≡ (out ++ stop-reply (r .stopped) (r .words)) ++ drop (r .bytes) before

@@ -1,9 +1,9 @@
 -- What is replied to an order. Assumes nothing.
-use mathlib.Core.List.{List, [], _∷_, _++_}
+use mathlib.Core.List.{List, _++_}
 use Prim.Native.Nat.{ℕ, _+_, _-_, _*_, _^_}
 use lib.ListN.{length, take, drop, replicate}
 use Rattle.words.specs.Words.{bytes-of}
-use Rattle.strips.specs.Orders.{Asked, ending, opening, applying, skipping, going-back, placing, naming, closing, kind}
+use Rattle.strips.specs.Orders.{Asked, ending, opening, applying, skipping, going-back, placing, naming, closing}
 use Rattle.strips.specs.Reading.{words-for}
 
 -- a refusal: kind 15, bits 27 to 20 its number, 19 to 16 the member, 15 to 0 the number of the order's first word

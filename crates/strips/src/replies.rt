@@ -1,6 +1,6 @@
 // Replies written into a buffer.
 ghost use mathlib.Core.Path.{_≡_};
-ghost use Prim.Native.Nat.{_+_, _*_, _≤_, _<_, _^_};
+ghost use Prim.Native.Nat.{_+_, _*_, _≤_, _<_};
 ghost use lib.ListN.{length};
 ghost use Rattle.strips.specs.Reading.{words-for};
 ghost use Rattle.strips.specs.Replies.{put-at, accepted-reply, refusal-reply};

@@ -3,7 +3,7 @@ use native.Mathlib.Omega.{arith}
 use Rattle.std.specs.declared.result.Result.the-variants.{Ok, Err}
 use Rattle.strips.specs.Orders.{asked}
 use Rattle.strips.specs.Replies.{reply-room}
-use Rattle.strips.specs.Answered.{Answered, ends, skips, steps-back, closes}
+use Rattle.strips.specs.Answered.{ends, skips, steps-back, closes}
 use Rattle.strips.proofs.Answering.{refused, refused-sized, as-asked}
 use Rattle.strips.proofs.answers.answer.Needs as need
 

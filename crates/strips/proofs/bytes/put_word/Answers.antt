@@ -1,6 +1,5 @@
-use mathlib.Core.Path.{_≡_, refl, ap, _∙_}
+use mathlib.Core.Path.{_≡_, ap, _∙_}
 use mathlib.Core.List.{[], _∷_}
-use Prim.Native.Nat.{_/_, _%_}
 use Rattle.words.specs.Words.{byte-of, bytes-of}
 use Rattle.words.proofs.Words.{byte-low}
 use Rattle.strips.specs.Replies.{put-at}

@@ -1,4 +1,4 @@
-use mathlib.Core.Path.{_≡_, refl, ap, _∙_}
+use mathlib.Core.Path.{ap, _∙_}
 use mathlib.Core.List.{_++_}
 use lib.ListN.{drop}
 use Rattle.std.specs.declared.option.Option.the-variants.{Some}

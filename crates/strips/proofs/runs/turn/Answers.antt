@@ -1,12 +1,12 @@
-use mathlib.Core.Path.{_≡_, refl, sym, ap, _∙_}
-use Prim.Native.Nat.{_+_, _≤_, _<_}
+use mathlib.Core.Path.{refl, _∙_}
+use Prim.Native.Nat.{_+_, _≤_}
 use native.Mathlib.Omega.{arith}
 use denote.Ref.{now}
 use lib.ListN.{length}
 use Rattle.session.specs.View.{view}
 use Rattle.strips.specs.Orders.{asked}
 use Rattle.strips.specs.Answered.{in-buffer}
-use Rattle.strips.specs.Runs.{refusals, reply-to}
+use Rattle.strips.specs.Runs.{reply-to}
 use Rattle.strips.proofs.Puts.{put-within}
 use Rattle.strips.proofs.Turning.{refusals-one, refusals-same, turned-full, turned-too-long, turned-unread, turned-done}
 use Rattle.strips.proofs.runs.turn.Needs as need
