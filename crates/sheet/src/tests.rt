@@ -233,6 +233,151 @@ fn refusals_of_the_session(rt: LibcRuntime) -> Result<(), Fail> {
 }
 
 #[test]
+fn keystream_of_snow_2(rt: LibcRuntime) -> Result<(), Fail> {
+    let heap = rt.alloc();
+    let mut sheet = [
+        0x9000_0000,
+        0x1101_0000,
+        16,
+        0x8000_0000,
+        0,
+        0,
+        0,
+        0,
+        0,
+        0,
+        0,
+        0x2000_0008,
+        0,
+        0,
+        END,
+    ];
+    let replies = [0x1000_0000, 0x2000_0008, 0x8D59_0AE9, 0xA74A_7D05, END];
+    expect(heap, &sheet, 64, &replies, (0, 14, 0))?;
+    sheet[0] = 0x9000_0004;
+    let every_other = [0x1000_0000, 0x2000_0008, 0x8D59_0AE9, 0x6DC9_CA74, END];
+    expect(heap, &sheet, 64, &every_other, (0, 14, 0))
+}
+
+#[test]
+fn origins_of_snow_3g_and_the_pair(rt: LibcRuntime) -> Result<(), Fail> {
+    let heap = rt.alloc();
+    let sheet = [
+        0x9000_0001,
+        0x1201_0000,
+        16,
+        1,
+        2,
+        3,
+        4,
+        5,
+        6,
+        7,
+        8,
+        9,
+        10,
+        11,
+        12,
+        0x3000_0009,
+        0x6000_0000,
+        END,
+    ];
+    let replies = [
+        0x1000_0000,
+        SKIP,
+        0x6000_0032,
+        0x2010_0000,
+        0x1_0000,
+        0x2_0000,
+        0x3_0000,
+        0x4_0000,
+        0x5_0000,
+        0x6_0000,
+        0x7_0000,
+        0x8_0000,
+        0x9_0000,
+        0xA_0000,
+        0xB_0000,
+        0xC_0000,
+        END,
+    ];
+    expect(heap, &sheet, 528, &replies, (0, 17, 0))?;
+    let pair = [
+        0x9000_0003,
+        0x1112_1000,
+        16,
+        0x1000_0000,
+        0,
+        0,
+        0,
+        0,
+        0x1000_0000,
+        0,
+        0,
+        0,
+        0,
+        0,
+        0,
+        0,
+        0,
+        0x1312_1000,
+        16,
+        0x1000_0000,
+        0,
+        0,
+        0,
+        0,
+        0,
+        0,
+        0,
+        0,
+        0,
+        0,
+        0,
+        0,
+        0x1000_0000,
+        0,
+        0,
+        0,
+        0,
+        0,
+        0,
+        0,
+        0,
+        0x6000_0000,
+        END,
+    ];
+    let named = [
+        0xF032_0000,
+        0x1000_0000,
+        0x6000_0054,
+        0x3121_1000,
+        0,
+        0,
+        0,
+        0,
+        0,
+        0,
+        0,
+        0,
+        0,
+        0,
+        0,
+        0x10,
+        0,
+        0,
+        0,
+        0,
+        0,
+        0,
+        0,
+        0,
+        END,
+    ];
+    expect(heap, &pair, 528, &named, (0, 42, 1))
+}
+
+#[test]
 fn longest_sheet(rt: LibcRuntime) -> Result<(), Fail> {
     let heap = rt.alloc();
     let mut sheet = vec![in heap; REGISTER]?;
