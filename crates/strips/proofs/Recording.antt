@@ -25,7 +25,7 @@ use Rattle.strips.specs.Orders.{Asked, ending, opening, applying, skipping, go
 use Rattle.strips.specs.Reading.{order, stop, reads, reads-opening, reads-payload, word-at}
 use Rattle.strips.specs.Replies.{refusal-reply}
 use Rattle.strips.specs.Answered.{Answered, ends, opens, applies, skips, steps-back, asks-place, asks-origin, closes}
-use Rattle.strips.specs.Runs.{Finished, reply-to, Progress, start, with-stop, Turn, full, unread, too-long, does, Turns, begun, more, outcome, report-of, Ran, bad-length, RunOf}
+use Rattle.strips.specs.Runs.{Finished, reply-to, Progress, start, with-stop, Turn, full, unread, too-long, does, Turns, begun, more, outcome, report-of, Ran, bad-length, StopsAt, RunOf}
 use Rattle.strips.specs.ReadBack.{heading, reply-size, ReadBack, nothing, heading-of}
 use Rattle.strips.specs.Records.{came-to, Orders, none, next, stop-reply, Recorded}
 use Rattle.strips.proofs.Headings.{read-more, accepted-heading, accepted-size, refusal-heading, refusal-size, reads-place, reads-short}
@@ -151,10 +151,10 @@ recorded m strip before r after lawful run = by-room (ltb (length before) 4) run
     unread-start : Recorded m strip before (report-of (Some NoRoom) start) before
     unread-start = record { finished = []; events = []; view = shut m; out = []; orders = none; calls = made; read-back = nothing; replies = refl }
 
-    by-length : (b : Bool) → bad-length strip ≡ b → cond b ((r ≡ report-of (Some BadLength) (with-stop start BadLength)) × (after ≡ with-stop start BadLength .out ++ drop 4 before)) (Ran m strip before r after) → Recorded m strip before r after
+    by-length : (b : Bool) → bad-length strip ≡ b → cond b (StopsAt BadLength before r after) (Ran m strip before r after) → Recorded m strip before r after
     by-length true h (e, f) = recorded-at e f (bad-start m strip before)
     by-length false h ran = let short : length strip ≤ 64000 = grind (arith, tells) in recorded-ran lawful short ran
 
-    by-room : (b : Bool) → cond b ((r ≡ report-of (Some NoRoom) start) × (after ≡ before)) (cond (bad-length strip) ((r ≡ report-of (Some BadLength) (with-stop start BadLength)) × (after ≡ with-stop start BadLength .out ++ drop 4 before)) (Ran m strip before r after)) → Recorded m strip before r after
+    by-room : (b : Bool) → cond b ((r ≡ report-of (Some NoRoom) start) × (after ≡ before)) (cond (bad-length strip) (StopsAt BadLength before r after) (Ran m strip before r after)) → Recorded m strip before r after
     by-room true (e, f) = recorded-at e f unread-start
     by-room false rest = by-length (bad-length strip) refl rest

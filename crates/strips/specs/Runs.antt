@@ -95,7 +95,7 @@ outcome None = Ok true
 abbrev pub report-of : Option Stop → Progress → Report
 report-of stopped p = record { stopped = stopped; words = p .words; bytes = length (p .out); refused = p .refused }
 
--- the orders of a strip up to its end or to a stop, what is reported of them, and the replies, which stood `before` in the buffer otherwise
+-- The orders of a strip up to its end or to a stop: the report, and the buffer after it, which behind the replies holds what it held before.
 pub record Ran (m : Meaning) (strip before : List ℕ) (r : Report) (after : List ℕ) : Type 0 where
   pub progress : Progress
   pub view : View
@@ -110,9 +110,13 @@ pub record Ran (m : Meaning) (strip before : List ℕ) (r : Report) (after : Lis
 abbrev pub bad-length : List ℕ → Bool
 bad-length strip = ltb 0 (length strip % 4) || ltb 64000 (length strip)
 
+-- a stop before the first order: one refusal with place 0 is written
+abbrev pub StopsAt : Stop → List ℕ → Report → List ℕ → Type 0
+StopsAt s before r after = (r ≡ report-of (Some s) (with-stop start s)) × (after ≡ with-stop start s .out ++ drop 4 before)
+
 -- a run of a strip with a buffer for its replies: the report, and the buffer after it
 abbrev pub RunOf : Meaning → List ℕ → List ℕ → Report → List ℕ → Type 0
 RunOf m strip before r after =
     cond (ltb (length before) 4) ((r ≡ report-of (Some NoRoom) start) × (after ≡ before))
-    (cond (bad-length strip) ((r ≡ report-of (Some BadLength) (with-stop start BadLength)) × (after ≡ with-stop start BadLength .out ++ drop 4 before))
+    (cond (bad-length strip) (StopsAt BadLength before r after)
     (Ran m strip before r after))

@@ -1,7 +1,7 @@
 -- What a sheet is answered: its first word names a generator, and a strip follows. The tests stand in their order of checking. Assumes nothing.
 use mathlib.Core.Path.{_≡_}
 use mathlib.Core.Bool.{cond}
-use mathlib.Core.List.{List, _++_}
+use mathlib.Core.List.{List}
 use Prim.Native.Nat.{ℕ}
 use lib.Dec.{eqb, ltb}
 use lib.ListN.{length, drop}
@@ -13,11 +13,10 @@ use Rattle.snow.specs.Snow2.{snow2}
 use Rattle.snow.specs.Snow3g.{snow3g}
 use Rattle.layers.specs.Pair.{pair}
 use Rattle.layers.specs.EveryOther.{every-other}
-use Rattle.strips.specs.declared.stops.Stop.{Stop}
 use Rattle.strips.specs.declared.stops.Stop.the-variants.{BadLength, CutShort, NoRoom, UnknownGenerator}
 use Rattle.strips.specs.declared.stops.Report.{Report}
 use Rattle.strips.specs.Reading.{word-at}
-use Rattle.strips.specs.Runs.{start, with-stop, report-of, bad-length, RunOf}
+use Rattle.strips.specs.Runs.{start, report-of, bad-length, StopsAt, RunOf}
 
 -- the generator that a word names
 abbrev pub generator-of : ℕ → Option Meaning
@@ -28,10 +27,6 @@ generator-of w =
     (cond (eqb w 0x90000003) (Some (pair snow2 snow3g))
     (cond (eqb w 0x90000004) (Some (every-other snow2))
     None))))
-
--- a stop before the first order: one refusal with place 0 is written
-abbrev pub StopsAt : Stop → List ℕ → Report → List ℕ → Type 0
-StopsAt s before r after = (r ≡ report-of (Some s) (with-stop start s)) × (after ≡ with-stop start s .out ++ drop 4 before)
 
 -- A sheet with a buffer for the replies: the report, and the buffer after it. The strip's words are counted from its own first word.
 abbrev pub SheetOf : List ℕ → List ℕ → Report → List ℕ → Type 0
