@@ -2,6 +2,8 @@
 use std::error::AnyError;
 use std::fs;
 
+mod ciphers;
+mod hex;
 mod tables;
 
 use tables::Table;
@@ -61,83 +63,43 @@ fn compare_doublings(rt: &LibcRuntime) -> Result<(), AnyError> {
     Ok(())
 }
 
-fn compare_all(rt: &LibcRuntime) -> Result<(), AnyError> {
-    compare_doublings(rt)?;
-    compare_table(rt, "ETSI/SAGE table 1 SR", "etsi_sr.txt", Table::Sr)?;
-    compare_table(rt, "ETSI/SAGE table 2 SQ", "etsi_sq.txt", Table::Sq)?;
-    compare_table(
-        rt,
-        "ETSI/SAGE table 3 S1_T0",
-        "etsi_s1_t0.txt",
-        Table::S1(0),
-    )?;
-    compare_table(
-        rt,
-        "ETSI/SAGE table 4 S1_T1",
-        "etsi_s1_t1.txt",
-        Table::S1(1),
-    )?;
-    compare_table(
-        rt,
-        "ETSI/SAGE table 5 S1_T2",
-        "etsi_s1_t2.txt",
-        Table::S1(2),
-    )?;
-    compare_table(
-        rt,
-        "ETSI/SAGE table 6 S1_T3",
-        "etsi_s1_t3.txt",
-        Table::S1(3),
-    )?;
-    compare_table(
-        rt,
-        "ETSI/SAGE table 7 S2_T0",
-        "etsi_s2_t0.txt",
-        Table::S2(0),
-    )?;
-    compare_table(
-        rt,
-        "ETSI/SAGE table 8 S2_T1",
-        "etsi_s2_t1.txt",
-        Table::S2(1),
-    )?;
-    compare_table(
-        rt,
-        "ETSI/SAGE table 9 S2_T2",
-        "etsi_s2_t2.txt",
-        Table::S2(2),
-    )?;
-    compare_table(
-        rt,
-        "ETSI/SAGE table 10 S2_T3",
-        "etsi_s2_t3.txt",
-        Table::S2(3),
-    )?;
-    compare_table(
-        rt,
+// Each printed table: its title, its file and the table that is held.
+const TABLES: [(&str, &str, Table); 15] = [
+    ("ETSI/SAGE table 1 SR", "etsi_sr.txt", Table::Sr),
+    ("ETSI/SAGE table 2 SQ", "etsi_sq.txt", Table::Sq),
+    ("ETSI/SAGE table 3 S1_T0", "etsi_s1_t0.txt", Table::S1(0)),
+    ("ETSI/SAGE table 4 S1_T1", "etsi_s1_t1.txt", Table::S1(1)),
+    ("ETSI/SAGE table 5 S1_T2", "etsi_s1_t2.txt", Table::S1(2)),
+    ("ETSI/SAGE table 6 S1_T3", "etsi_s1_t3.txt", Table::S1(3)),
+    ("ETSI/SAGE table 7 S2_T0", "etsi_s2_t0.txt", Table::S2(0)),
+    ("ETSI/SAGE table 8 S2_T1", "etsi_s2_t1.txt", Table::S2(1)),
+    ("ETSI/SAGE table 9 S2_T2", "etsi_s2_t2.txt", Table::S2(2)),
+    ("ETSI/SAGE table 10 S2_T3", "etsi_s2_t3.txt", Table::S2(3)),
+    (
         "ETSI/SAGE table 11 MULalpha",
         "etsi_mul_alpha.txt",
         Table::MulAlpha,
-    )?;
-    compare_table(
-        rt,
+    ),
+    (
         "ETSI/SAGE table 12 DIValpha",
         "etsi_div_alpha.txt",
         Table::DivAlpha,
-    )?;
-    compare_table(rt, "ISO 7.1.7 SUB", "iso_sub.txt", Table::Sr)?;
-    compare_table(
-        rt,
-        "ISO 7.2.5 alpha_mul",
-        "iso_alpha_mul.txt",
-        Table::MulAlpha,
-    )?;
-    compare_table(
-        rt,
+    ),
+    ("ISO 7.1.7 SUB", "iso_sub.txt", Table::Sr),
+    ("ISO 7.2.5 alpha_mul", "iso_alpha_mul.txt", Table::MulAlpha),
+    (
         "ISO 7.2.6 alpha_inv_mul",
         "iso_alpha_inv_mul.txt",
         Table::DivAlpha,
-    )
+    ),
+];
+
+fn compare_all(rt: &LibcRuntime) -> Result<(), AnyError> {
+    compare_doublings(rt)?;
+    for (title, file, table) in TABLES {
+        compare_table(rt, title, file, table)?;
+    }
+    ciphers::compare(rt)
 }
 
 fn main(rt: LibcRuntime) -> Result<(), AnyError> {
