@@ -1,6 +1,7 @@
 // Tasks from start to end, printed so that a person can follow them.
 use std::error::AnyError;
 
+mod borders;
 mod piles;
 mod registers;
 mod sessions;
@@ -9,7 +10,8 @@ mod show;
 fn demonstrate(rt: &LibcRuntime) -> Result<(), AnyError> {
     registers::demonstrate(rt)?;
     piles::demonstrate(rt)?;
-    sessions::demonstrate(rt)
+    sessions::demonstrate(rt)?;
+    borders::demonstrate(rt)
 }
 
 fn main(rt: LibcRuntime) -> Result<(), AnyError> {
