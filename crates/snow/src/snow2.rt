@@ -7,6 +7,7 @@ ghost use lib.Dec.{eqb};
 ghost use Rattle.std.specs.declared.result.Result.the-variants.{Ok, Err};
 ghost use Rattle.generator.specs.declared.Fault.the-variants.{Iv};
 ghost use lib.ListN.{length, getD, replicate};
+ghost use Rattle.generator.specs.Meaning.{times};
 ghost use Rattle.snow.specs.Refusals.{Filled};
 ghost use Rattle.snow.specs.Snow2.{state-of, fsm, clocked, feed, unclocked, unfeed, prepared, started, rewound, snow2};
 use crate::loading::eight_words;
@@ -137,15 +138,13 @@ impl Snow2 {
         self.unclock(fed);
     }
 
-    // The steps of a load: 32 in INIT mode, and one plain step.
-    fn start(&mut self)
-        ensures { λ _. ⌜ state-of (now (self .exit) .words) (now (self .exit) .b1) (now (self .exit) .b2) ≡ started (state-of (now (self .entry) .words) (now (self .entry) .b1) (now (self .entry) .b2)) ⌝ }
+    // The steps in INIT mode of a load.
+    fn warm_up(&mut self)
+        ensures { λ _. ⌜ state-of (now (self .exit) .words) (now (self .exit) .b1) (now (self .exit) .b2) ≡ times 32 feed (state-of (now (self .entry) .words) (now (self .entry) .b1) (now (self .entry) .b2)) ⌝ }
     {
         for i in 0..32u32 {
             self.feed();
         }
-        let last = feedback(&self.words);
-        self.clock(last);
     }
 
     // Loads an expanded key and an IV.
@@ -159,7 +158,8 @@ impl Snow2 {
             return Err(Fault::Iv(0));
         }
         self.words = with_iv(expanded, four_words(iv));
-        self.start();
+        self.warm_up();
+        self.forward();
         Ok(())
     }
 

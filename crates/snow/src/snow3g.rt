@@ -2,8 +2,9 @@
 ghost use mathlib.Core.Path.{_≡_};
 ghost use Prim.Native.Nat.{ℕ, _<_, _^_};
 ghost use lib.ListN.{length, getD, replicate};
+ghost use Rattle.generator.specs.Meaning.{times};
 ghost use Rattle.snow.specs.Refusals.{Filled};
-ghost use Rattle.snow.specs.Snow3g.{state-of, fsm, clocked, feed, unclocked, unfeed, started, rewound, snow3g};
+ghost use Rattle.snow.specs.Snow3g.{state-of, fsm, clocked, feed, unclocked, unfeed, rewound, snow3g};
 use crate::loading::eight_words;
 use crate::loading::expand_256;
 use crate::loading::four_words;
@@ -112,15 +113,13 @@ impl Snow3g {
         self.unclock(fed);
     }
 
-    // The clocks of a load: 32 in Initialisation Mode, and one in Keystream Mode.
-    fn start(&mut self)
-        ensures { λ _. ⌜ state-of (now (self .exit) .words) (now (self .exit) .r1) (now (self .exit) .r2) (now (self .exit) .r3) ≡ started (state-of (now (self .entry) .words) (now (self .entry) .r1) (now (self .entry) .r2) (now (self .entry) .r3)) ⌝ }
+    // The clocks in Initialisation Mode of a load.
+    fn warm_up(&mut self)
+        ensures { λ _. ⌜ state-of (now (self .exit) .words) (now (self .exit) .r1) (now (self .exit) .r2) (now (self .exit) .r3) ≡ times 32 feed (state-of (now (self .entry) .words) (now (self .entry) .r1) (now (self .entry) .r2) (now (self .entry) .r3)) ⌝ }
     {
         for i in 0..32u32 {
             self.feed();
         }
-        let last = feedback(&self.words);
-        self.clock(last);
     }
 
     // Back over the clocks of a load.
@@ -151,7 +150,8 @@ pub impl Generator for Snow3g as Snow3gGenerator {
         self.r1 = 0;
         self.r2 = 0;
         self.r3 = 0;
-        self.start();
+        self.warm_up();
+        self.forward();
         Ok(())
     }
 
