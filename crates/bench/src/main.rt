@@ -1,4 +1,6 @@
 // Times 16 MiB of keystream for each cipher. Figures go to standard error, a checksum of the keystream to standard output.
+#![tactic(auto)]
+
 use anyhow::anyhow;
 use generator::Generator;
 use snow::{Snow2, Snow3g};

@@ -1,4 +1,5 @@
 // Tasks from start to end, printed so that a person can follow them.
+#![tactic(auto)]
 
 mod borders;
 mod piles;

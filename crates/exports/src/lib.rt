@@ -1,4 +1,6 @@
 // The collection as C and Rust programs can link it: a handful of calls on numbers and slices.
+#![tactic(auto)]
+
 mod answers;
 mod boxes;
 mod filled;

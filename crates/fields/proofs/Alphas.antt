@@ -1,13 +1,13 @@
 -- α and its inverse undo each other, since β to the power 255 is 1. Assumes nothing.
-use Rattle.std.proofs.Common.{◌≡◌, ℕ, zero, suc, ◌+◌, ◌*◌, ◌/◌, ◌%◌, ◌^◌, ◌<◌, Bool, true, false, T, eqb, sym, refl, ap, ◌∙◌, subst, ap₂, suc-add, zero-add, arith, eqb→eq}
-use lib.Bits.{bit_xor, xor_lt, xor_zero_r}
+use Rattle.std.proofs.Common.{◌≡◌, ℕ, zero, suc, ◌+◌, ◌*◌, ◌/◌, ◌%◌, ◌^◌, ◌<◌, eqb, sym, refl, ap, ◌∙◌, subst, suc-add, zero-add, arith, eqb→eq}
+use lib.Bits.{xor_lt}
 use Rattle.words.specs.Words.{◌⊕◌, word, byte_of}
 use Rattle.words.proofs.Xors.{xors}
-use Rattle.words.proofs.Words.{byte_0, byte_1, byte_2, byte_3, byte_below, word_bytes, word_below, words_same, xor_words}
+use Rattle.words.proofs.Words.{byte_0, byte_3, byte_below, word_bytes, word_below, words_same, xor_words}
 use Rattle.fields.specs.Doubling.{doubled, doublings}
 use Rattle.fields.specs.Alpha.{times_beta, mul_alpha, div_alpha, times_alpha, over_alpha}
 use Rattle.fields.specs.Theorems.{Linear, Inverse}
-use Rattle.fields.proofs.Entries.{all_below, all_at}
+use Rattle.fields.proofs.Entries.{all_at}
 use Rattle.fields.proofs.Fields.{doubled_linear, composed, same_by_bits}
 
 beta_linear : (n : ℕ) → Linear (times_beta n)

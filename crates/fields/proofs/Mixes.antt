@@ -1,5 +1,5 @@
 -- Mixing over any linear doubling, and what four mixings give. Assumes nothing.
-use Rattle.std.proofs.Common.{◌≡◌, ℕ, ◌^◌, ◌<◌, sym, refl, ap, ◌∙◌, subst, ap₂, arith}
+use Rattle.std.proofs.Common.{◌≡◌, ℕ, ◌^◌, ◌<◌, sym, refl, ap, ◌∙◌, subst, ap₂}
 use lib.Bits.{bit_xor, xor_lt}
 use Rattle.words.specs.Words.{◌⊕◌, word, byte_of}
 use Rattle.words.proofs.Xors.{xors}

@@ -1,6 +1,5 @@
 -- The boxes by few products, so that a table is compared with its rule in a second or two. Assumes nothing.
-use Rattle.std.proofs.Common.{◌≡◌, ℕ, ◌<◌, T, ap, ◌∙◌, ap₂, arith}
-use lib.Bits.{bit_xor}
+use Rattle.std.proofs.Common.{◌≡◌, ℕ, ◌<◌, T, ap, arith}
 use Rattle.words.specs.Words.{◌⊕◌}
 use Rattle.fields.specs.Doubling.{doubled, partial_product, product, power}
 use Rattle.fields.specs.Boxes.{affine, sr, sq}

@@ -1,5 +1,5 @@
 -- The byte boxes SR and SQ, and what undoes a box. Assumes nothing.
-use Rattle.std.specs.Prelude.{ℕ, zero, suc, ◌+◌, ◌-◌, ◌*◌, ◌/◌, ◌%◌, ◌^◌, Bool, true, false, ◌==◌}
+use Rattle.std.specs.Prelude.{ℕ, zero, suc, ◌+◌, ◌-◌, ◌*◌, ◌/◌, ◌%◌, ◌^◌, true, false, ◌==◌}
 use Rattle.words.specs.Words.{◌⊕◌}
 use Rattle.fields.specs.Doubling.{power}
 

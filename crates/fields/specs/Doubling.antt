@@ -1,5 +1,5 @@
 -- Byte fields. A field of 256 elements is given by its tap byte: what is joined where doubling shifts a bit out. Assumes nothing.
-use Rattle.std.specs.Prelude.{ℕ, zero, suc, ◌*◌, ◌/◌, ◌%◌, Bool, true, false, cond, ◌==◌, nat_lt}
+use Rattle.std.specs.Prelude.{ℕ, zero, suc, ◌*◌, ◌/◌, ◌%◌, cond, ◌==◌, nat_lt}
 use Rattle.words.specs.Words.{◌⊕◌}
 
 -- the byte v shifted left by one, the bit shifted out dropped, and joined with the tap byte c where that bit was 1

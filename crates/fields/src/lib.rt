@@ -1,4 +1,6 @@
 // Byte fields, the boxes of SNOW 2.0 and SNOW 3G, and multiplication by α.
+#![tactic(auto)]
+
 mod alpha;
 mod dickson;
 mod dickson_undone;

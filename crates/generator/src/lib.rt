@@ -1,4 +1,6 @@
 // A keystream generator: what every one of them means, keeps and does.
+#![tactic(auto)]
+
 ghost use Rattle.std.specs.Prelude.{◌≡◌, ℕ, List};
 ghost use Rattle.generator.specs.Refusals.{fault_number, member, origin_number};
 ghost use Rattle.generator.specs.Meaning.{Meaning, Lawful, State, zeros};

@@ -10,7 +10,7 @@ use Rattle.generator.specs.declared.OriginFault.TheVariants.{ShortBuffer, NoOrig
 use Rattle.session.specs.declared.refusals.Refusal.{Refusal}
 use Rattle.session.specs.declared.refusals.Refusal.TheVariants.{Origin}
 use Rattle.session.specs.declared.refusals.TraceFault.{TraceFault}
-use Rattle.session.specs.declared.refusals.TraceFault.TheVariants.{ShortBuffer as Short, TooFar, NoOrigin as Unnamed}
+use Rattle.session.specs.declared.refusals.TraceFault.TheVariants.{NoOrigin as Unnamed}
 use Rattle.session.specs.View.{View, stream_byte}
 use Rattle.session.specs.Calls.{OriginOf, Joined, Traced, from_origin, from_trace}
 use Rattle.history.specs.Laws.{SessionLaws, Opening, Event, Keystream, SameKeyIv}

@@ -1,4 +1,6 @@
 // Lists of calls on one session, and what holds after every one of them.
+#![tactic(auto)]
+
 mod replays;
 mod requests;
 

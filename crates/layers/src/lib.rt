@@ -1,4 +1,6 @@
 // Layers over any generator: two generators at once, and every other word of one.
+#![tactic(auto)]
+
 ghost use Rattle.layers.specs.Piles.{PilesStand};
 
 mod every_other;

@@ -1,5 +1,5 @@
 -- Bytes joined one by one. Assumes nothing.
-use Rattle.std.proofs.Common.{◌≡◌, ℕ, zero, suc, ◌+◌, ◌-◌, ◌*◌, ◌/◌, ◌%◌, ◌^◌, ◌<◌, ◌≤◌, ◌≢◌, List, [], ◌∷◌, length, get_or, take, drop, set, Ok, Err, Result, sym, refl, ap, ◌∙◌, subst, ap₂, ⊎_elim, zero-add, arith, get_or-set_other, get_or-set_same, rules, below_more}
+use Rattle.std.proofs.Common.{◌≡◌, ℕ, zero, suc, ◌+◌, ◌-◌, ◌*◌, ◌/◌, ◌%◌, ◌^◌, ◌<◌, ◌≤◌, ◌≢◌, List, [], ◌∷◌, length, get_or, take, drop, set, Ok, sym, refl, ap, ◌∙◌, subst, ap₂, ⊎_elim, zero-add, arith, get_or-set_other, get_or-set_same, rules, below_more}
 use lib.Bits.{bit_xor, xor_lt}
 use borrow.Rule.Slice.PartMut.{put_mid}
 use Rattle.std.proofs.lemmas.List.{places, get_or_past}
@@ -9,7 +9,6 @@ use Rattle.words.specs.Words.{Bytes, word, byte_of, bytes_of}
 use Rattle.words.proofs.Words.{byte_0, byte_1, byte_2, byte_3, byte_below, word_bytes, words_same, xor_words}
 use Rattle.generator.specs.Meaning.{Meaning, times}
 use Rattle.generator.proofs.Repeats.{times_add}
-use Rattle.session.specs.declared.refusals.Refusal.{Refusal}
 use Rattle.session.specs.View.{View, placed, moved, ahead, stream_byte}
 use Rattle.session.specs.Calls.{Joined, Applied}
 

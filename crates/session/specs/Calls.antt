@@ -1,6 +1,6 @@
 -- What each call of a session answers and leaves, and what a trace does. The tests of a call stand in its order of checking; v is the
 -- session before the call, w the one after it and r the answer. Assumes nothing.
-use Rattle.std.specs.Prelude.{◌≡◌, ℕ, ◌+◌, ◌-◌, ◌*◌, ◌/◌, ◌^◌, ◌<◌, ◌≤◌, Bool, true, false, cond, ◌||◌, List, length, Some, None, Ok, Err, Option, Result, ◌==◌, bit_xor, nat_lt, slice_index}
+use Rattle.std.specs.Prelude.{◌≡◌, ℕ, ◌+◌, ◌-◌, ◌*◌, ◌/◌, ◌^◌, ◌<◌, ◌≤◌, Bool, cond, ◌||◌, List, length, Some, None, Ok, Err, Option, Result, ◌==◌, bit_xor, nat_lt, slice_index}
 use Rattle.generator.specs.Meaning.{Meaning}
 use Rattle.generator.specs.Calls.{Named}
 use Rattle.generator.specs.declared.OriginFault.{OriginFault}

@@ -10,7 +10,7 @@ pub record View : Type 0 where
   pub position : ℕ
   pub limit : ℕ
 
-abbrev pub view : {G : Type 0} → (G → List ℕ) → Session G → View
+abbrev pub view : {G : Type 0} {g : _} → (G → List ℕ) → Session G g → View
 view state s = record { state = state s.generator; position = s.position; limit = s.limit }
 
 -- a closed session has zero words, position 0 and limit 0

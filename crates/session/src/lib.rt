@@ -1,4 +1,6 @@
 // Sessions: a message's way through any keystream generator.
+#![tactic(auto)]
+
 mod calls;
 mod join;
 mod refusals;

@@ -1,4 +1,6 @@
 // Standard input holds a sheet, a word that names a generator and a strip; standard output gets the replies.
+#![tactic(auto)]
+
 use std::io;
 use std::io::{Read, Write};
 

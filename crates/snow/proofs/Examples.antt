@@ -1,13 +1,13 @@
 -- The worked examples, computed. Assumes nothing.
-use Rattle.std.proofs.Common.{◌≡◌, ℕ, [], ◌∷◌, ◌++◌, replicate, refl, ap, ◌∙◌, arith}
+use Rattle.std.proofs.Common.{◌≡◌, [], ◌∷◌, ◌++◌, replicate, refl, ap, arith}
 use Rattle.words.specs.Words.{word}
 use Rattle.fields.specs.Doubling.{doubled, doublings, partial_product, product, power}
 use Rattle.fields.specs.Boxes.{rotated, affine, sr, sq, undone}
-use Rattle.fields.specs.Mixing.{mixed_bytes, mixed, boxed, unmixed, s1, s2, s1_undone, s2_undone}
+use Rattle.fields.specs.Mixing.{mixed_bytes, mixed, boxed, unmixed, s1, s2, s1_undone}
 use Rattle.fields.specs.Alpha.{times_beta, mul_alpha, div_alpha, times_alpha, over_alpha}
 use Rattle.fields.proofs.Undone.{sr_bijective, undone_is}
-use Rattle.snow.specs.Snow2.{snow2, step, unstep}
-use Rattle.snow.specs.Snow3g.{snow3g, step as step-3g}
+use Rattle.snow.specs.Snow2.{step, unstep}
+use Rattle.snow.specs.Snow3g.{step as step-3g}
 use Rattle.snow.specs.Specimens.{Specimens}
 
 undone_0 : undone sr 0 ≡ 0x52

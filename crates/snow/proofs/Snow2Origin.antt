@@ -1,11 +1,9 @@
 -- What origin answers of SNOW 2.0. Assumes nothing.
-use Rattle.std.proofs.Common.{◌≡◌, ℕ, ◌+◌, ◌*◌, ◌^◌, ◌<◌, ◌≤◌, Bool, true, false, cond, ◌⊎◌, List, [], ◌∷◌, ◌++◌, reverse, length, get_or, drop, replicate, Some, None, Ok, Err, Option, Result, sym, refl, ap, ◌∙◌, subst, ap₂, inl, inr, ⊎_elim, arith, eq-eqb, ne_eqb}
+use Rattle.std.proofs.Common.{◌≡◌, ℕ, ◌*◌, ◌≤◌, ◌⊎◌, List, [], ◌∷◌, ◌++◌, reverse, length, drop, replicate, Some, Ok, Err, sym, refl, ap, ◌∙◌, subst, ap₂, inl, inr, ⊎_elim, arith, eq-eqb, ne_eqb}
 use Rattle.std.proofs.lemmas.List.{append_cancel_right}
-use Rattle.generator.specs.declared.OriginFault.TheVariants.{NoOrigin}
-use Rattle.generator.specs.Meaning.{State, Reaches, times}
+use Rattle.generator.specs.Meaning.{State, Reaches}
 use Rattle.generator.specs.Calls.{Loaded, Named}
 use Rattle.generator.specs.declared.Fault.TheVariants.{Key}
-use Rattle.words.specs.Words.{Bytes, words_bytes}
 use Rattle.words.proofs.Bytes.{bytes_of_bytes}
 use Rattle.words.proofs.Spelled.{spelled}
 use Rattle.snow.specs.Register.{at, numbered}

@@ -1,5 +1,5 @@
 -- What origin answers of SNOW 3G. Assumes nothing.
-use Rattle.std.proofs.Common.{◌≡◌, ℕ, ◌+◌, ◌*◌, ◌^◌, ◌<◌, ◌≤◌, Bool, true, false, cond, List, [], ◌∷◌, ◌++◌, reverse, length, drop, Some, None, Ok, Err, sym, refl, ap, ◌∙◌, subst, ap₂, arith, eq-eqb}
+use Rattle.std.proofs.Common.{◌≡◌, ℕ, ◌*◌, ◌≤◌, List, [], ◌∷◌, ◌++◌, reverse, length, drop, Some, Ok, sym, refl, ap, ◌∙◌, subst, ap₂, eq-eqb}
 use Rattle.std.proofs.lemmas.List.{append_cancel_right}
 use Rattle.generator.specs.Meaning.{State, Reaches}
 use Rattle.generator.specs.Calls.{Named}

@@ -1,7 +1,7 @@
 -- Keys and IVs in the register, and how they are read off again. Assumes nothing.
-use Rattle.std.specs.Prelude.{◌≡◌, ℕ, zero, suc, ◌+◌, ◌^◌, ◌<◌, List, [], ◌∷◌, ◌++◌, map, length, take, ◌≢◌, slice_set, refl}
+use Rattle.std.specs.Prelude.{◌≡◌, ℕ, zero, suc, ◌^◌, ◌<◌, List, [], ◌∷◌, map, length, take, ◌≢◌, slice_set, refl}
 use Rattle.std.proofs.Common.{sym, ap, ap₂, subst, ◌∙◌, arith}
-use Rattle.std.specs.Int.Bits.{bit_xor, xor_self}
+use Rattle.std.specs.Int.Bits.{xor_self}
 use Rattle.std.proofs.lemmas.Nat.{xor_lt}
 use Rattle.words.specs.Words.{◌⊕◌, AllBelow, Words}
 use Rattle.words.proofs.Xors.{xors, xor_twice}
@@ -11,7 +11,6 @@ use Rattle.generator.specs.Meaning.{State}
 use Rattle.snow.specs.Register.{at}
 use Rattle.snow.specs.Loading.{inverted, expanded_128, expanded_256, with_iv}
 use Rattle.snow.specs.Origins.{key_128, iv_128, key_256, iv_256}
-use Rattle.snow.specs.ShiftLaws.{words_of_state}
 
 inverted_twice : (w : ℕ) → inverted (inverted w) ≡ w
 inverted_twice w = go w 0xFFFFFFFF

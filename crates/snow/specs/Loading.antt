@@ -1,7 +1,7 @@
 -- What the ciphers load before their first steps. Assumes nothing.
-use Rattle.std.specs.Prelude.{ℕ, List, [], ◌∷◌, ◌++◌, map, slice_set}
+use Rattle.std.specs.Prelude.{ℕ, List, ◌++◌, map, slice_set}
 use Rattle.words.specs.Words.{◌⊕◌}
-use Rattle.snow.specs.Register.{at, numbered}
+use Rattle.snow.specs.Register.{at}
 
 -- every bit of a word inverted: the bold 1 of the standards is all ones
 abbrev pub inverted : ℕ → ℕ

@@ -10,7 +10,7 @@ use Rattle.generator.specs.Calls.{Loaded}
 use Rattle.words.specs.Words.{Bytes, Words, words_bytes, words_of}
 use Rattle.words.proofs.Words.{fits_reverse}
 use Rattle.words.proofs.Spelled.{spell, spelled}
-use Rattle.words.proofs.Bytes.{bytes_of_bytes, length_bytes, words_of_bytes, words_fit, length_words, bytes_of_words}
+use Rattle.words.proofs.Bytes.{length_bytes, words_of_bytes, words_fit, length_words, bytes_of_words}
 use Rattle.snow.specs.Register.{numbered}
 use Rattle.snow.specs.Origins.{unnumbered}
 

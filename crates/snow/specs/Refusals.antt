@@ -1,5 +1,5 @@
 -- Filling a generator from a list of words. Assumes nothing.
-use Rattle.std.specs.Prelude.{◌≡◌, ℕ, Bool, true, false, cond, List, length, Ok, Err, Result, ◌==◌}
+use Rattle.std.specs.Prelude.{◌≡◌, ℕ, cond, List, length, Ok, Err, Result, ◌==◌}
 use Rattle.snow.specs.declared.refusals.FillFault.{FillFault}
 use Rattle.snow.specs.declared.refusals.FillFault.TheVariants.{WrongCount}
 

@@ -1,5 +1,5 @@
 -- The shift register of SNOW 2.0 and SNOW 3G, sixteen words a0 to a15, and the generator that it is by itself. Assumes nothing.
-use Rattle.std.specs.Prelude.{ℕ, ◌+◌, ◌-◌, ◌%◌, ◌^◌, Bool, true, false, cond, List, [], ◌∷◌, ◌++◌, reverse, length, take, drop, Ok, Err, Result, ◌==◌, slice_index}
+use Rattle.std.specs.Prelude.{ℕ, ◌+◌, ◌-◌, ◌%◌, ◌^◌, cond, List, [], ◌∷◌, ◌++◌, reverse, length, take, drop, Ok, Err, Result, ◌==◌, slice_index}
 use Rattle.words.specs.Words.{◌⊕◌, words_of}
 use Rattle.fields.specs.Alpha.{times_alpha, over_alpha}
 use Rattle.generator.specs.declared.Fault.{Fault}

@@ -1,13 +1,13 @@
 -- The bare register keeps the laws of generators. Assumes nothing.
-use Rattle.std.specs.Prelude.{◌≡◌, ℕ, zero, suc, ◌+◌, ◌*◌, ◌^◌, ◌<◌, ◌≤◌, ◌⊎◌, List, [], ◌∷◌, ◌++◌, reverse, length, get_or, take, drop, Ok, Err, Result, refl}
+use Rattle.std.specs.Prelude.{◌≡◌, ℕ, ◌*◌, ◌^◌, ◌≤◌, ◌⊎◌, List, [], ◌∷◌, ◌++◌, reverse, length, drop, Ok, Err, refl}
 use Rattle.std.proofs.Common.{sym, ap, subst, ◌∙◌, arith, eq-eqb}
 use Rattle.std.proofs.lemmas.Bool.Decides.{nat_tests}
 use Rattle.std.proofs.lemmas.List.{nil_from_length}
 use Rattle.generator.specs.declared.Fault.{Fault}
 use Rattle.generator.specs.declared.Fault.TheVariants.{Key, Iv}
-use Rattle.generator.specs.Meaning.{Meaning, State, Lawful, Reaches}
+use Rattle.generator.specs.Meaning.{State, Lawful, Reaches}
 use Rattle.generator.specs.Calls.{Named}
-use Rattle.words.specs.Words.{AllBelow, words_bytes}
+use Rattle.words.specs.Words.{words_bytes}
 use Rattle.words.proofs.Bytes.{bytes_of_bytes, length_bytes}
 use Rattle.words.proofs.Words.{fits_append}
 use Rattle.words.proofs.Spelled.{spell, fits_spell}

@@ -1,9 +1,9 @@
 -- A step of the register and its undoing, word by word. Assumes nothing.
-use Rattle.std.specs.Prelude.{◌≡◌, ℕ, zero, suc, ◌+◌, ◌^◌, ◌<◌, List, [], ◌∷◌, length, slice_index, refl}
+use Rattle.std.specs.Prelude.{◌≡◌, ℕ, ◌^◌, ◌<◌, List, slice_index}
 use Rattle.std.proofs.Common.{sym, ap, subst, ◌∙◌, arith}
-use Rattle.std.specs.Int.Bits.{bit_xor, xor_zero_r}
+use Rattle.std.specs.Int.Bits.{xor_zero_r}
 use Rattle.std.proofs.lemmas.Nat.{xor_lt}
-use Rattle.words.specs.Words.{◌⊕◌, AllBelow, Words}
+use Rattle.words.specs.Words.{◌⊕◌}
 use Rattle.words.proofs.Xors.{xors}
 use Rattle.words.proofs.Words.{at_below}
 use Rattle.words.proofs.Spelled.{spell, spelled}

@@ -1,5 +1,5 @@
 -- SNOW 2.0 (ISO/IEC 18033-4:2005, 7.2): eighteen words a0 to a15, b1, b2. Assumes nothing.
-use Rattle.std.specs.Prelude.{ℕ, Bool, true, false, cond, List, [], ◌∷◌, ◌++◌, length, Ok, Err, Result, ◌==◌}
+use Rattle.std.specs.Prelude.{ℕ, cond, List, [], ◌∷◌, ◌++◌, length, Ok, Err, Result, ◌==◌}
 use Rattle.words.specs.Words.{◌⊕◌}
 use Rattle.fields.specs.Mixing.{s1, s1_undone}
 use Rattle.generator.specs.declared.Fault.{Fault}

@@ -1,13 +1,13 @@
 -- SNOW 2.0 keeps the laws of generators. Assumes nothing.
-use Rattle.std.specs.Prelude.{◌≡◌, ℕ, ◌+◌, ◌*◌, ◌^◌, ◌<◌, ◌≤◌, Bool, true, false, cond, ◌⊎◌, List, [], ◌∷◌, ◌++◌, length, Ok, Err, Result, ◌==◌, refl}
-use Rattle.std.proofs.Common.{sym, ap, ap₂, subst, ◌∙◌, inl, inr, ⊎_elim, arith, eq-eqb, ne_eqb}
+use Rattle.std.specs.Prelude.{◌≡◌, ℕ, ◌+◌, ◌^◌, ◌<◌, ◌≤◌, cond, ◌⊎◌, List, [], ◌∷◌, ◌++◌, length, Ok, Err, ◌==◌}
+use Rattle.std.proofs.Common.{sym, ap, subst, ◌∙◌, ⊎_elim, arith}
 use Rattle.std.proofs.lemmas.Nat.{xor_lt}
 use Rattle.std.proofs.lemmas.Bool.Decides.{nat_tests}
 use Rattle.std.proofs.lemmas.List.{length-append, append_cancel_right}
 use Rattle.generator.specs.declared.Fault.{Fault}
 use Rattle.generator.specs.declared.Fault.TheVariants.{Key, Iv}
-use Rattle.generator.specs.Meaning.{Meaning, State, Lawful, Reaches, times}
-use Rattle.words.specs.Words.{◌⊕◌, AllBelow, Bytes, Words}
+use Rattle.generator.specs.Meaning.{State, Lawful, Reaches, times}
+use Rattle.words.specs.Words.{Bytes}
 use Rattle.words.proofs.Words.{fits_append}
 use Rattle.snow.specs.Register.{at, numbered, plus}
 use Rattle.snow.specs.Loading.{expanded_128, expanded_256, with_iv}
@@ -16,7 +16,7 @@ use Rattle.snow.specs.Snow2.{fsm, step, feed, strm, unstep, unfeed, prepared, st
 use Rattle.snow.specs.Numbers.{numbered_state, numbered_one, plain_member}
 use Rattle.snow.specs.ShiftLaws.{words_of_state}
 use Rattle.snow.specs.LoadLaws.{state_128, state_256, key_128_back, iv_128_back, key_256_back, iv_256_back, lengths_apart}
-use Rattle.snow.specs.Starts.{Steps, started_state, rewound_state, rewound_started, started_rewound}
+use Rattle.snow.specs.Starts.{Steps, started_state, rewound_started}
 use Rattle.snow.specs.Snow2Steps.{step_state, feed_state, unstep_state, unfeed_state, unstep_step, step_unstep, unfeed_feed, feed_unfeed, plus_below}
 
 pub steps : Steps 18 step feed unstep unfeed

@@ -1,17 +1,16 @@
 -- SNOW 2.0 steps forth and back. Assumes nothing.
-use Rattle.std.specs.Prelude.{◌≡◌, ℕ, ◌+◌, ◌-◌, ◌%◌, ◌^◌, ◌<◌, List, [], ◌∷◌, ◌++◌, length, get_or, refl}
-use Rattle.std.proofs.Common.{sym, ap, ap₂, subst, ◌∙◌, arith}
-use Rattle.std.specs.Int.Bits.{bit_xor}
+use Rattle.std.specs.Prelude.{◌≡◌, ℕ, ◌^◌, ◌<◌, List, [], ◌∷◌, refl}
+use Rattle.std.proofs.Common.{ap, ◌∙◌, arith}
 use Rattle.std.proofs.lemmas.Nat.{xor_lt}
-use Rattle.words.specs.Words.{◌⊕◌, AllBelow, Words}
+use Rattle.words.specs.Words.{◌⊕◌}
 use Rattle.words.proofs.Words.{fits_append}
 use Rattle.words.proofs.Spelled.{spell, fits_spell}
 use Rattle.fields.specs.Alpha.{over_alpha}
 use Rattle.fields.specs.Mixing.{s1, s1_undone}
 use Rattle.fields.proofs.WordBoxes.{s1_inverse}
 use Rattle.generator.specs.Meaning.{State}
-use Rattle.snow.specs.Register.{at, feedback, shifted, unshifted, plus, minus}
-use Rattle.snow.specs.Snow2.{fsm, clocked, step, feed, strm, b1_before, b2_before, unclocked, unstep, unfeed}
+use Rattle.snow.specs.Register.{at, feedback, plus, minus}
+use Rattle.snow.specs.Snow2.{fsm, clocked, step, feed, b1_before, b2_before, unclocked, unstep, unfeed}
 use Rattle.snow.specs.ShiftLaws.{feedback_below, dropped_below, dropped_back, shifted_again, plain_back, plain_again, words_of_state}
 
 pub plus_below : (a b : ℕ) → plus a b < 2 ^ 32

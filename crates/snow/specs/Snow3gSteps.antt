@@ -1,9 +1,8 @@
 -- SNOW 3G steps forth and back. Assumes nothing.
-use Rattle.std.specs.Prelude.{◌≡◌, ℕ, ◌+◌, ◌-◌, ◌%◌, ◌^◌, ◌<◌, List, [], ◌∷◌, ◌++◌, length, get_or, refl}
-use Rattle.std.proofs.Common.{sym, ap, ap₂, subst, ◌∙◌, arith}
-use Rattle.std.specs.Int.Bits.{bit_xor}
+use Rattle.std.specs.Prelude.{◌≡◌, ℕ, ◌^◌, ◌<◌, List, [], ◌∷◌, refl}
+use Rattle.std.proofs.Common.{ap, ◌∙◌, arith}
 use Rattle.std.proofs.lemmas.Nat.{xor_lt}
-use Rattle.words.specs.Words.{◌⊕◌, AllBelow, Words}
+use Rattle.words.specs.Words.{◌⊕◌}
 use Rattle.words.proofs.Xors.{xors}
 use Rattle.words.proofs.Words.{fits_append}
 use Rattle.words.proofs.Spelled.{spell, fits_spell}
@@ -11,7 +10,7 @@ use Rattle.fields.specs.Alpha.{over_alpha}
 use Rattle.fields.specs.Mixing.{s1, s1_undone, s2, s2_undone}
 use Rattle.fields.proofs.WordBoxes.{s1_inverse, s2_inverse}
 use Rattle.generator.specs.Meaning.{State}
-use Rattle.snow.specs.Register.{at, plus, minus, feedback, shifted, unshifted}
+use Rattle.snow.specs.Register.{at, plus, minus, feedback}
 use Rattle.snow.specs.Snow3g.{fsm, clocked, step, feed, keystream, r1_before, r2_before, r3_before, unclocked, unstep, unfeed}
 use Rattle.snow.specs.ShiftLaws.{feedback_below, dropped_below, dropped_back, shifted_again, plain_back, plain_again, words_of_state}
 use Rattle.snow.specs.Snow2Steps.{plus_below, minus_below}

@@ -1,6 +1,6 @@
 -- Thirty-two feed steps and one plain step, and their undoing, of any cipher whose steps undo each other. Assumes nothing.
 use Rattle.std.specs.Prelude.{◌≡◌, ℕ, List}
-use Rattle.std.proofs.Common.{sym, ap, ◌∙◌}
+use Rattle.std.proofs.Common.{ap, ◌∙◌}
 use Rattle.generator.specs.Meaning.{State, times}
 use Rattle.generator.proofs.Repeats.{kept_state, undone}
 

@@ -1,4 +1,6 @@
 // SNOW 2.0, SNOW 3G with 256-bit keys and the bare register, as keystream generators.
+#![tactic(auto)]
+
 mod bytes;
 mod labels;
 mod loading;

@@ -1,5 +1,5 @@
 // SNOW 2.0 (ISO/IEC 18033-4:2005, 7.2).
-ghost use Rattle.std.specs.Prelude.{◌≡◌, ℕ, ◌^◌, ◌<◌, List, [], ◌∷◌, ◌++◌, length, replicate, if◌then◌else◌, Ok, Err, nat_eq, slice_index};
+ghost use Rattle.std.specs.Prelude.{◌≡◌, ℕ, ◌^◌, ◌<◌, List, [], ◌∷◌, ◌++◌, length, replicate, MatchBool, Ok, Err, nat_eq, slice_index};
 ghost use Rattle.generator.specs.declared.Fault.TheVariants.{Iv};
 ghost use Rattle.generator.specs.Meaning.{times};
 ghost use Rattle.snow.specs.Refusals.{Filled};
@@ -120,7 +120,7 @@ impl Snow2 {
 
     // Loads an expanded key and an IV.
     fn begin(&mut self, expanded: [u32; 16], iv: &[u8]) -> Result<(), Fault>
-        ensures { if nat_eq (length iv.now) 16 then ((result ≡ Ok tt) × (state_of self.new.words self.new.b1 self.new.b2 ≡ started (prepared expanded iv.now))) else ((result ≡ Err (Iv 0)) × (state_of self.new.words self.new.b1 self.new.b2 ≡ replicate 18 0)) }
+        ensures { MatchBool (nat_eq (length iv.now) 16) ((result ≡ Ok tt) × (state_of self.new.words self.new.b1 self.new.b2 ≡ started (prepared expanded iv.now))) ((result ≡ Err (Iv 0)) × (state_of self.new.words self.new.b1 self.new.b2 ≡ replicate 18 0)) }
     {
         self.b1 = 0;
         self.b2 = 0;

@@ -1,4 +1,6 @@
 // Strips: recorded lists of session calls, run over any keystream generator.
+#![tactic(auto)]
+
 mod answers;
 mod bytes;
 mod cursor;

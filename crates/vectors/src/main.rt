@@ -1,4 +1,6 @@
 // Compares what the standards print with what is held. The files under data/ keep each entry as it is printed.
+#![tactic(auto)]
+
 use anyhow::anyhow;
 use std::fs;
 

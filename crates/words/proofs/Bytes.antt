@@ -1,6 +1,6 @@
 -- Lists of bytes and lists of words, one from the other. Assumes nothing.
-use Rattle.std.proofs.Common.{◌≡◌, ℕ, zero, suc, ◌+◌, ◌*◌, ◌/◌, ◌<◌, ◌≤◌, List, [], ◌∷◌, ◌++◌, length, get_or, sym, refl, ap, ◌∙◌, ap₂, arith}
-use Rattle.words.specs.Words.{AllBelow, Bytes, Words, word, byte_of, bytes_of, words_bytes, words_of}
+use Rattle.std.proofs.Common.{◌≡◌, ℕ, zero, suc, ◌+◌, ◌*◌, ◌/◌, ◌≤◌, List, [], ◌∷◌, length, get_or, refl, ap, ap₂, arith}
+use Rattle.words.specs.Words.{Bytes, Words, word, words_bytes, words_of}
 use Rattle.words.proofs.Words.{byte_0, byte_1, byte_2, byte_3, byte_below, word_bytes, word_below}
 
 pub bytes_of_bytes : (ws : List ℕ) → Bytes (words_bytes ws)

@@ -1,5 +1,5 @@
 -- Equations of exclusive ors: `simp xors` sorts both sides alike and drops what is joined twice. Assumes nothing.
-use Rattle.std.proofs.Common.{◌≡◌, ℕ, sym, refl, ap, ◌∙◌}
+use Rattle.std.proofs.Common.{◌≡◌, ℕ, sym, ap, ◌∙◌}
 use lib.Bits.{xor_assoc, xor_comm, xor_self, xor_zero_l, xor_zero_r}
 use Rattle.words.specs.Words.{◌⊕◌}
 

@@ -1,4 +1,6 @@
 // Bytes and words of 32 bits, most significant byte first.
+#![tactic(auto)]
+
 ghost use Rattle.std.specs.Prelude.{◌≡◌, ◌%◌};
 ghost use Rattle.words.specs.Words.{Bytes, byte_of, word_at};
 

@@ -5,7 +5,7 @@ use Rattle.words.proofs.word_at.Goals as goal
 
 pub returns : goal.returns
 unfolding word_at
-returns c = c.from-be-bytes.ensures ∙ sym (word_of_bytes c.args.bytes.now c.args.place (omega arith))
+returns c = c.from_be_bytes.ensures ∙ sym (word_of_bytes c.args.bytes.now c.args.place (omega arith))
 
 pub returns-then-place-bytes : goal.returns-then-place-bytes
 unfolding word_at

@@ -10,25 +10,25 @@ use Rattle.exports.proofs.streams.jorumdell_words.Goals as goal
 
 pub returns-in-0 : goal.returns-in-0
 returns-in-0 c =
-    subst (λ g. StreamedBy g c.args.state.now c.args.back c.args.words.now c.stream-filled.result c.stream-filled.new.words) (sym c.in-0.is)
-    (streamed_from snow2 _ c.args.state.now c.args.back c.args.words.now c.stream-filled.result c.stream-filled.new.words c.snow2-of.result c.snow2-of.ensures c.stream-filled.ensures)
+    subst (λ g. StreamedBy g c.args.state.now c.args.back c.args.words.now c.stream_filled.result c.stream_filled.new.words) (sym c.in-0.is)
+    (streamed_from snow2 _ c.args.state.now c.args.back c.args.words.now c.stream_filled.result c.stream_filled.new.words c.snow2_of.result c.snow2_of.ensures c.stream_filled.ensures)
 
 pub returns-in-1 : goal.returns-in-1
 returns-in-1 c =
-    subst (λ g. StreamedBy g c.args.state.now c.args.back c.args.words.now c.stream-filled-in-1.result c.stream-filled-in-1.new.words) (sym c.in-1.is)
-    (streamed_from snow3g _ c.args.state.now c.args.back c.args.words.now c.stream-filled-in-1.result c.stream-filled-in-1.new.words c.snow3g-of.result c.snow3g-of.ensures c.stream-filled-in-1.ensures)
+    subst (λ g. StreamedBy g c.args.state.now c.args.back c.args.words.now c.stream_filled-in-1.result c.stream_filled-in-1.new.words) (sym c.in-1.is)
+    (streamed_from snow3g _ c.args.state.now c.args.back c.args.words.now c.stream_filled-in-1.result c.stream_filled-in-1.new.words c.snow3g_of.result c.snow3g_of.ensures c.stream_filled-in-1.ensures)
 
 pub returns-in-2 : goal.returns-in-2
 returns-in-2 c =
-    subst (λ g. StreamedBy g c.args.state.now c.args.back c.args.words.now c.stream-filled-in-2.result c.stream-filled-in-2.new.words) (sym c.in-2.is)
-    (streamed_from register _ c.args.state.now c.args.back c.args.words.now c.stream-filled-in-2.result c.stream-filled-in-2.new.words c.register-of.result c.register-of.ensures c.stream-filled-in-2.ensures)
+    subst (λ g. StreamedBy g c.args.state.now c.args.back c.args.words.now c.stream_filled-in-2.result c.stream_filled-in-2.new.words) (sym c.in-2.is)
+    (streamed_from register _ c.args.state.now c.args.back c.args.words.now c.stream_filled-in-2.result c.stream_filled-in-2.new.words c.register_of.result c.register_of.ensures c.stream_filled-in-2.ensures)
 
 pub returns-in-3 : goal.returns-in-3
 returns-in-3 c =
-    subst (λ g. StreamedBy g c.args.state.now c.args.back c.args.words.now c.stream-filled-in-3.result c.stream-filled-in-3.new.words) (sym c.in-3.is)
-    (streamed_from (pair snow2 snow3g) _ c.args.state.now c.args.back c.args.words.now c.stream-filled-in-3.result c.stream-filled-in-3.new.words c.pair-of.result c.pair-of.ensures c.stream-filled-in-3.ensures)
+    subst (λ g. StreamedBy g c.args.state.now c.args.back c.args.words.now c.stream_filled-in-3.result c.stream_filled-in-3.new.words) (sym c.in-3.is)
+    (streamed_from (pair snow2 snow3g) _ c.args.state.now c.args.back c.args.words.now c.stream_filled-in-3.result c.stream_filled-in-3.new.words c.pair_of.result c.pair_of.ensures c.stream_filled-in-3.ensures)
 
 pub returns-in-4 : goal.returns-in-4
 returns-in-4 c =
-    subst (λ g. StreamedBy g c.args.state.now c.args.back c.args.words.now c.stream-filled-in-4.result c.stream-filled-in-4.new.words) (sym c.in-4.is)
-    (streamed_from (every_other snow2) _ c.args.state.now c.args.back c.args.words.now c.stream-filled-in-4.result c.stream-filled-in-4.new.words c.every-other-of.result c.every-other-of.ensures c.stream-filled-in-4.ensures)
+    subst (λ g. StreamedBy g c.args.state.now c.args.back c.args.words.now c.stream_filled-in-4.result c.stream_filled-in-4.new.words) (sym c.in-4.is)
+    (streamed_from (every_other snow2) _ c.args.state.now c.args.back c.args.words.now c.stream_filled-in-4.result c.stream_filled-in-4.new.words c.every_other_of.result c.every_other_of.ensures c.stream_filled-in-4.ensures)

@@ -10,6 +10,6 @@ unfolding times_alpha
 returns c =
     let top : c.args.word / 16777216 ≡ byte_of c.args.word 0 = omega arith in
     record {
-      value = ap (bit_xor (c.args.word * 2 ^ 8 % 2 ^ 32)) (c.mul-alpha-entry.ensures ∙ ap mul_alpha top);
+      value = ap (bit_xor (c.args.word * 2 ^ 8 % 2 ^ 32)) (c.mul_alpha_entry.ensures ∙ ap mul_alpha top);
       undone = alpha_inverse;
     }

@@ -1,4 +1,4 @@
-use Rattle.std.proofs.Common.{◌≡◌, get_or, sym, ap, ◌∙◌, arith}
+use Rattle.std.proofs.Common.{get_or, sym, ap, ◌∙◌, arith}
 use Rattle.words.specs.Words.{byte_of}
 use Rattle.words.proofs.Words.{byte_below, byte_low}
 use Rattle.fields.specs.Doubling.{doubled}
@@ -14,12 +14,12 @@ unfolding s1
 returns c =
     let w = c.args.word in
     record {
-      value = c.join-shares.ensures (doubled 0x1B) (sr (byte_of w 0)) (sr (byte_of w 1)) (sr (byte_of w 2)) (sr (byte_of w 3)) (doubled_linear 0x1B (omega arith))
+      value = c.join_shares.ensures (doubled 0x1B) (sr (byte_of w 0)) (sr (byte_of w 1)) (sr (byte_of w 2)) (sr (byte_of w 3)) (doubled_linear 0x1B (omega arith))
           (sr_bijective.stays (byte_of w 0) (byte_below w 0)) (sr_bijective.stays (byte_of w 1) (byte_below w 1)) (sr_bijective.stays (byte_of w 2) (byte_below w 2)) (sr_bijective.stays (byte_of w 3) (byte_below w 3))
-          (c.s1-share.ensures ∙ ap (λ bs. share (doubled 0x1B) (sr (get_or bs 0 0))) c.to-be-bytes.ensures)
-          (c.s1-share-2.ensures ∙ ap (λ bs. share (doubled 0x1B) (sr (get_or bs 1 0))) c.to-be-bytes.ensures)
-          (c.s1-share-3.ensures ∙ ap (λ bs. share (doubled 0x1B) (sr (get_or bs 2 0))) c.to-be-bytes.ensures)
-          (c.s1-share-4.ensures ∙ ap (λ bs. share (doubled 0x1B) (sr (get_or bs 3 0))) c.to-be-bytes.ensures ∙ ap (λ b. share (doubled 0x1B) (sr b)) (byte_low w))
+          (c.s1_share.ensures ∙ ap (λ bs. share (doubled 0x1B) (sr (get_or bs 0 0))) c.to_be_bytes.ensures)
+          (c.s1_share-2.ensures ∙ ap (λ bs. share (doubled 0x1B) (sr (get_or bs 1 0))) c.to_be_bytes.ensures)
+          (c.s1_share-3.ensures ∙ ap (λ bs. share (doubled 0x1B) (sr (get_or bs 2 0))) c.to_be_bytes.ensures)
+          (c.s1_share-4.ensures ∙ ap (λ bs. share (doubled 0x1B) (sr (get_or bs 3 0))) c.to_be_bytes.ensures ∙ ap (λ b. share (doubled 0x1B) (sr b)) (byte_low w))
           ∙ sym (mixed_boxed sr (doubled 0x1B) sr_bijective.stays w);
       undone = s1_inverse;
     }

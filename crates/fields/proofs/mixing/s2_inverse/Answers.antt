@@ -1,15 +1,13 @@
-use Rattle.std.proofs.Common.{◌≡◌, get_or, ap, ◌∙◌}
-use Rattle.words.specs.Words.{byte_of}
+use Rattle.std.proofs.Common.{get_or, ap, ◌∙◌}
 use Rattle.words.proofs.Words.{byte_low}
-use Rattle.fields.specs.Doubling.{doubled}
-use Rattle.fields.specs.Mixing.{mixed, boxed, unmixed, s2_undone}
+use Rattle.fields.specs.Mixing.{boxed, unmixed, s2_undone}
 use Rattle.fields.proofs.mixing.s2_inverse.Goals as goal
 
 pub returns : goal.returns
 unfolding boxed unmixed s2_undone
 returns c =
-    let b0 = ap (λ bs. get_or bs 0 0) c.to-be-bytes.ensures in
-    let b1 = ap (λ bs. get_or bs 1 0) c.to-be-bytes.ensures in
-    let b2 = ap (λ bs. get_or bs 2 0) c.to-be-bytes.ensures in
-    let b3 = ap (λ bs. get_or bs 3 0) c.to-be-bytes.ensures ∙ byte_low c.mix-3.result in
+    let b0 = ap (λ bs. get_or bs 0 0) c.to_be_bytes.ensures in
+    let b1 = ap (λ bs. get_or bs 1 0) c.to_be_bytes.ensures in
+    let b2 = ap (λ bs. get_or bs 2 0) c.to_be_bytes.ensures in
+    let b3 = ap (λ bs. get_or bs 3 0) c.to_be_bytes.ensures ∙ byte_low c.mix-3.result in
     cc

@@ -8,6 +8,6 @@ returns c =
     let second = c.args.second.now in
     let buffer = c.args.buffer.now in
     record {
-      written = rw (c.copy-from-slice.ensures.after, c.copy-from-slice-2.ensures.after) (written (length first) _ _ _ buffer first second (omega arith) (omega arith) (omega arith) (omega arith));
+      written = rw (c.copy_from_slice.ensures.after, c.copy_from_slice-2.ensures.after) (written (length first) _ _ _ buffer first second (omega arith) (omega arith) (omega arith) (omega arith));
       count = simp length-append (omega arith);
     }

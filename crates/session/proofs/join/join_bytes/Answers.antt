@@ -1,4 +1,4 @@
-use Rattle.std.proofs.Common.{◌≡◌, ◌%◌, sym, ap, ◌∙◌, subst, arith}
+use Rattle.std.proofs.Common.{◌≡◌, ◌%◌, sym, ap, ◌∙◌, arith}
 use Rattle.words.specs.Words.{byte_of}
 use Rattle.session.specs.View.{placed, ahead, stream_byte}
 use Rattle.session.proofs.Joins.{ahead_word, ahead_same, joins_more, leaves_more}
@@ -12,8 +12,8 @@ loop-byte-preserved g c =
     let from = c.args.from in
     let i = c.loop-byte.byte-index in
     let inv = c.loop-byte.invariant in
-    let byte : c.byte-at.result ≡ stream_byte m (placed s from) i = c.byte-at.ensures ∙ ap (λ w. byte_of w (c.loop-byte.position % 4)) (inv.2 ∙ ap m.word inv.1) ∙ ap (λ p. byte_of (m.word (ahead m (placed s from) i)) (p % 4)) inv.0 in
-    let done = joins_more m s from i c.args.bytes.now c.loop-byte.bytes c.byte-at.result (omega arith) byte inv.3 inv.4 in
+    let byte : c.byte_at.result ≡ stream_byte m (placed s from) i = c.byte_at.ensures ∙ ap (λ w. byte_of w (c.loop-byte.position % 4)) (inv.2 ∙ ap m.word inv.1) ∙ ap (λ p. byte_of (m.word (ahead m (placed s from) i)) (p % 4)) inv.0 in
+    let done = joins_more m s from i c.args.bytes.now c.loop-byte.bytes c.byte_at.result (omega arith) byte inv.3 inv.4 in
     let left = leaves_more i c.args.bytes.now c.loop-byte.bytes _ inv.4 in
     let state = g.G.Generator.state in
     elim c.if-position-eq0.branch [

@@ -1,4 +1,4 @@
-use Rattle.std.proofs.Common.{sym, ap, ◌∙◌, subst}
+use Rattle.std.proofs.Common.{ap, ◌∙◌, subst}
 use Rattle.generator.specs.Meaning.{times}
 use Rattle.generator.specs.Calls.{Named}
 use Rattle.generator.proofs.Repeats.{named_from, next_again}

@@ -1,4 +1,4 @@
-use Rattle.std.proofs.Common.{◌≡◌, ◌*◌, ◌≤◌, ◌++◌, length, take, drop, ap, ◌∙◌, arith}
+use Rattle.std.proofs.Common.{◌≡◌, ◌*◌, ◌++◌, length, take, drop, ap, ◌∙◌, arith}
 use Rattle.std.proofs.lemmas.List.{take_all}
 use Rattle.words.specs.Words.{words_bytes}
 use Rattle.snow.proofs.Written.{word_more}
@@ -6,7 +6,7 @@ use Rattle.snow.proofs.bytes.put_words.Goals as goal
 
 pub loop-i-preserved : goal.loop-i-preserved
 loop-i-preserved c =
-    c.put-word.ensures ∙ word_more c.args.words.now c.args.buffer.now c.loop-i.buffer c.loop-i.i (omega arith) (omega (arith, c.requires)) c.loop-i.invariant
+    c.put_word.ensures ∙ word_more c.args.words.now c.args.buffer.now c.loop-i.buffer c.loop-i.i (omega arith) (omega (arith, c.requires)) c.loop-i.invariant
 
 pub returns : goal.returns
 returns c =

@@ -2,17 +2,17 @@ use Rattle.std.proofs.Common.{Ok, Err, arith}
 use Rattle.strips.proofs.Answering.{refused, refused_sized, opening_answered}
 use Rattle.strips.proofs.answers.answer_opening.Goals as goal
 
-pub returns-in-err-open : goal.returns-in-err-open
-returns-in-err-open g c =
+pub returns-in_err-open : goal.returns-in_err-open
+returns-in_err-open g c =
     record {
-      answered = refused c.from-residual.result _ c.in-err-open.field-0.0 c.from-residual.ensures.1
-          (opening_answered c.args.key.now c.copy-from-slice.new.self c.args.iv.now c.args.limit (Err c.in-err-open.field-0.0) c.copy-from-slice.ensures.after c.are-bytes.ensures c.are-bytes-2.ensures c.in-err-open.ensures.opened);
-      sized = refused_sized 0 c.from-residual.result c.from-residual.ensures.0;
+      answered = refused c.from_residual.result _ c.in_err-open.field-0.0 c.from_residual.ensures.1
+          (opening_answered c.args.key.now c.copy_from_slice.new.self c.args.iv.now c.args.limit (Err c.in_err-open.field-0.0) c.copy_from_slice.ensures.after c.are_bytes.ensures c.are_bytes-2.ensures c.in_err-open.ensures.opened);
+      sized = refused_sized 0 c.from_residual.result c.from_residual.ensures.0;
     }
 
 pub returns : goal.returns
 returns g c =
     record {
-      answered = opening_answered c.args.key.now c.copy-from-slice.new.self c.args.iv.now c.args.limit (Ok tt) c.copy-from-slice.ensures.after c.are-bytes.ensures c.are-bytes-2.ensures c.in-ok-open.ensures.opened;
+      answered = opening_answered c.args.key.now c.copy_from_slice.new.self c.args.iv.now c.args.limit (Ok tt) c.copy_from_slice.ensures.after c.are_bytes.ensures c.are_bytes-2.ensures c.in_ok-open.ensures.opened;
       sized = omega arith;
     }

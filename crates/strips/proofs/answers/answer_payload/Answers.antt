@@ -6,22 +6,22 @@ use Rattle.strips.specs.Answered.{Answered}
 use Rattle.strips.proofs.Answering.{refused, refused_sized, payload_answered}
 use Rattle.strips.proofs.answers.answer_payload.Goals as goal
 
-pub returns-in-err-apply-keystream : goal.returns-in-err-apply-keystream
-returns-in-err-apply-keystream g c =
+pub returns-in_err-apply_keystream : goal.returns-in_err-apply_keystream
+returns-in_err-apply_keystream g c =
     record {
-      answered = refused c.from-residual.result _ c.in-err-apply-keystream.field-0.0 c.from-residual.ensures.1
-          (payload_answered c.args.payload.now c.copy-from-slice.new.self c.apply-keystream.new.buffer (Err c.in-err-apply-keystream.field-0.0) c.copy-from-slice.ensures.after c.in-err-apply-keystream.ensures);
-      sized = refused_sized (length c.args.payload.now) c.from-residual.result c.from-residual.ensures.0;
+      answered = refused c.from_residual.result _ c.in_err-apply_keystream.field-0.0 c.from_residual.ensures.1
+          (payload_answered c.args.payload.now c.copy_from_slice.new.self c.apply_keystream.new.buffer (Err c.in_err-apply_keystream.field-0.0) c.copy_from_slice.ensures.after c.in_err-apply_keystream.ensures);
+      sized = refused_sized (length c.args.payload.now) c.from_residual.result c.from_residual.ensures.0;
     }
 
 pub returns : goal.returns
 returns g c =
     let payload = c.args.payload.now in
-    let after = c.apply-keystream.new.buffer in
-    let long : length after ≡ length payload = c.apply-keystream.auto.buffer ∙ ap length c.copy-from-slice.ensures.after in
+    let after = c.apply_keystream.new.buffer in
+    let long : length after ≡ length payload = c.apply_keystream.auto.buffer ∙ ap length c.copy_from_slice.ensures.after in
     record {
-      answered = subst (λ bytes. Answered g.G.Generator.meaning (view g.G.Generator.state c.args.session.now) (applying payload) (Ok bytes) (view g.G.Generator.state c.apply-keystream.new.self))
+      answered = subst (λ bytes. Answered g.G.Generator.meaning (view g.G.Generator.state c.args.session.now) (applying payload) (Ok bytes) (view g.G.Generator.state c.apply_keystream.new.self))
           (sym (take_at after _ (length payload) long))
-          (payload_answered payload c.copy-from-slice.new.self after (Ok tt) c.copy-from-slice.ensures.after c.in-ok-apply-keystream.ensures);
+          (payload_answered payload c.copy_from_slice.new.self after (Ok tt) c.copy_from_slice.ensures.after c.in_ok-apply_keystream.ensures);
       sized = omega arith;
     }

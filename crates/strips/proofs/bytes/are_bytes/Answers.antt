@@ -5,7 +5,7 @@ use Rattle.history.proofs.Runs.{bytes_from}
 use Rattle.strips.proofs.bytes.are_bytes.Goals as goal
 
 pub returns : goal.returns
-returns c = bytes_from c.args.bytes.now (λ i. omega (arith, c.type-inv.bytes i))
+returns c = bytes_from c.args.bytes.now (λ i. omega (arith, c.type_inv.bytes i))
 
-pub returns-then-is-empty : goal.returns-then-is-empty
-returns-then-is-empty c = subst Bytes (sym (nil_from_length c.args.bytes.now (true-eqb _ _ c.if-is-empty.ensures))) tt
+pub returns-then-is_empty : goal.returns-then-is_empty
+returns-then-is_empty c = subst Bytes (sym (nil_from_length c.args.bytes.now (true-eqb _ _ c.if-is_empty.ensures))) tt

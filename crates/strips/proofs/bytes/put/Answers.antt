@@ -8,4 +8,4 @@ returns c =
     let buffer = c.args.buffer.now in
     let bytes = c.args.bytes.now in
     let size : at + (at + length bytes - at) ≡ at + length bytes = omega arith in
-    ap₂ (λ xs ys. take at buffer ++ (xs ++ ys)) c.copy-from-slice.ensures.after (drop-drop (at + length bytes - at) at buffer ∙ ap (λ n. drop n buffer) size)
+    ap₂ (λ xs ys. take at buffer ++ (xs ++ ys)) c.copy_from_slice.ensures.after (drop-drop (at + length bytes - at) at buffer ∙ ap (λ n. drop n buffer) size)

@@ -5,4 +5,4 @@ use Rattle.strips.proofs.bytes.read_word.Goals as goal
 
 pub returns : goal.returns
 unfolding word_at
-returns c = c.from-be-bytes.ensures ∙ sym (word_of_bytes c.args.bytes.now c.args.place (omega (arith, c.requires)))
+returns c = c.from_be_bytes.ensures ∙ sym (word_of_bytes c.args.bytes.now c.args.place (omega (arith, c.requires)))

@@ -9,4 +9,4 @@ returns c =
     let word = c.args.word in
     let count = c.args.count in
     let size : 4 * (word + words_for count) - (4 * word + count) ≡ 4 * words_for count - count = omega arith in
-    c.is-zero.ensures ∙ ap (λ n. all_zero (take n (drop (4 * word + count) strip))) size
+    c.is_zero.ensures ∙ ap (λ n. all_zero (take n (drop (4 * word + count) strip))) size

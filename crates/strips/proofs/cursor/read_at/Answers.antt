@@ -26,5 +26,5 @@ returns-in-6 c = record { reads = grind (arith, nat_tests); within = search rule
 pub returns-in-7 : goal.returns-in-7
 returns-in-7 c = record { reads = grind (arith, nat_tests); within = search rules }
 
-pub returns-in-default : goal.returns-in-default
-returns-in-default c = record { reads = grind (arith, nat_tests); within = search rules }
+pub returns-in_default : goal.returns-in_default
+returns-in_default c = record { reads = grind (arith, nat_tests); within = search rules }

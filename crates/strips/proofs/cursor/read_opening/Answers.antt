@@ -7,9 +7,9 @@ pub returns-then-place-words : goal.returns-then-place-words
 unfolding reads_opening reads_payload
 returns-then-place-words c = record { reads = grind (arith, nat_tests); within = search rules }
 
-pub returns-then-not-is-filled : goal.returns-then-not-is-filled
+pub returns-then-not-is_filled : goal.returns-then-not-is_filled
 unfolding reads_opening reads_payload
-returns-then-not-is-filled c = record { reads = grind (arith, nat_tests); within = search rules }
+returns-then-not-is_filled c = record { reads = grind (arith, nat_tests); within = search rules }
 
 pub returns : goal.returns
 unfolding reads_opening reads_payload

@@ -17,12 +17,12 @@ returns c =
     let pad = at + 4 + 4 * words_for count - s in
     let written = c.put.new.buffer in
     let head = bytes_of (c.args.kind * 268435456 + count) in
-    let same_size : (length written ≡ length before) = c.put.auto.buffer ∙ c.put-word.auto.buffer in
+    let same_size : (length written ≡ length before) = c.put.auto.buffer ∙ c.put_word.auto.buffer in
     let long : length (take pad (drop s written)) ≡ pad = length-take-le pad (drop s written) (simp length-drop (omega arith)) in
     let gap : pad ≡ 4 * words_for count - count = omega arith in
     let zeros : c.fill.new.self ≡ replicate (4 * words_for count - count) 0 = c.fill.ensures.after (λ y e. e) ∙ ap (λ n. replicate n 0) (long ∙ gap) in
     let word : c.args.kind * 268435456 % 4294967296 + count ≡ c.args.kind * 268435456 + count = omega arith in
-    let first : c.put-word.new.buffer ≡ put_at at head before = c.put-word.ensures ∙ ap (λ w. put_at at (bytes_of w) before) word in
+    let first : c.put_word.new.buffer ≡ put_at at head before = c.put_word.ensures ∙ ap (λ w. put_at at (bytes_of w) before) word in
     let both : written ≡ put_at at (head ++ bytes) before = c.put.ensures ∙ ap (put_at (at + 4) bytes) first ∙ put_put at (at + 4) head bytes before (omega arith) refl in
     let total : count + (4 * words_for count - count) ≡ 4 * words_for count = omega arith in
     record {

@@ -5,4 +5,4 @@ use Rattle.strips.proofs.replies.put_refusal.Goals as goal
 
 pub returns : goal.returns
 unfolding refusal_reply
-returns c = record { put = c.put-word.ensures ∙ ap (λ w. put_at c.args.at (bytes_of w) c.args.replies.now) (omega arith); end = refl }
+returns c = record { put = c.put_word.ensures ∙ ap (λ w. put_at c.args.at (bytes_of w) c.args.replies.now) (omega arith); end = refl }

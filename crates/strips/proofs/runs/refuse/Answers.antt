@@ -6,6 +6,6 @@ pub returns : goal.returns
 unfolding refusal_reply
 returns c =
     record {
-      report = ap (λ n. record { stopped = Some c.args.stop; words = 0; bytes = n; refused = 0 }) c.put-refusal.ensures.end;
-      replies = c.put-refusal.ensures.put ∙ ap (λ n. refusal_reply n 0 0 ++ drop 4 c.args.replies.now) c.number.ensures;
+      report = ap (λ n. record { stopped = Some c.args.stop; words = 0; bytes = n; refused = 0 }) c.put_refusal.ensures.end;
+      replies = c.put_refusal.ensures.put ∙ ap (λ n. refusal_reply n 0 0 ++ drop 4 c.args.replies.now) c.number.ensures;
     }

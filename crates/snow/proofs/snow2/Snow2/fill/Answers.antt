@@ -8,4 +8,4 @@ pub returns : goal.returns
 returns c =
     let ws = c.args.words.now in
     let left = c.if-words-ne18.false in
-    rw (eq-eqb (length ws) 18 left) (refl, ap (λ front. state_of front (at ws 16) (at ws 17)) c.first-sixteen-self.ensures ∙ eighteen ws left)
+    rw (eq-eqb (length ws) 18 left) (refl, ap (λ front. state_of front (at ws 16) (at ws 17)) c.first_sixteen-self.ensures ∙ eighteen ws left)

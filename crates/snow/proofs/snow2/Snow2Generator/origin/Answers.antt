@@ -1,6 +1,5 @@
-use Rattle.std.proofs.Common.{◌≡◌, ◌^◌, sym, refl, ap, ◌∙◌, ⊎_elim, arith}
+use Rattle.std.proofs.Common.{refl, ◌∙◌, ⊎_elim, arith}
 use Rattle.snow.specs.Snow2.{state_of}
-use Rattle.words.proofs.Words.{below_everywhere, all_from_each}
 use Rattle.snow.specs.Snow2Parts.{state_fits, words_fit}
 use Rattle.snow.proofs.Snow2Origin.{none_by_words, none_by_register, named_128, named_256}
 use Rattle.snow.proofs.snow2.Snow2Generator.origin.Goals as goal
@@ -27,19 +26,19 @@ returns-in-Some c =
     record {
       named =
           named_256 (state_of x.words x.b1 x.b2) y.words y.b1 y.b2 (state_fits x.words x.b1 x.b2 x.count x.fits x.fits_b1 x.fits_b2) (words_fit y.words y.count y.fits) c.rewind.ensures c.if-start-ne0.false c.if-start-ne0-2.false
-          c.args.key.now c.args.iv.now c.name-256.new.key c.name-256.new.iv c.in-Some.lengths (omega arith) (omega arith) c.in-Some.ensures;
+          c.args.key.now c.args.iv.now c.name_256.new.key c.name_256.new.iv c.in-Some.lengths (omega arith) (omega arith) c.in-Some.ensures;
       same = refl;
     }
 
-pub returns-in-Some-name-128 : goal.returns-in-Some-name-128
-returns-in-Some-name-128 c =
+pub returns-in-Some-name_128 : goal.returns-in-Some-name_128
+returns-in-Some-name_128 c =
     let x = c.args.self.now in
     let y = c.rewind.new.self in
-    let before = c.in-default.ensures in
+    let before = c.in_default.ensures in
     record {
       named =
           named_128 (state_of x.words x.b1 x.b2) y.words y.b1 y.b2 (state_fits x.words x.b1 x.b2 x.count x.fits x.fits_b1 x.fits_b2) (words_fit y.words y.count y.fits) c.rewind.ensures c.if-start-ne0.false c.if-start-ne0-2.false
-          c.args.key.now c.args.iv.now c.name-256.new.key c.name-256.new.iv c.name-128.new.key c.name-128.new.iv c.in-Some-name-128.lengths (omega arith) (omega arith) before.1 before.2 c.in-Some-name-128.ensures;
+          c.args.key.now c.args.iv.now c.name_256.new.key c.name_256.new.iv c.name_128.new.key c.name_128.new.iv c.in-Some-name_128.lengths (omega arith) (omega arith) before.1 before.2 c.in-Some-name_128.ensures;
       same = refl;
     }
 
@@ -47,7 +46,7 @@ pub returns-in-None : goal.returns-in-None
 returns-in-None c =
     let x = c.args.self.now in
     let y = c.rewind.new.self in
-    let before = c.in-default.ensures in
+    let before = c.in_default.ensures in
     let after = c.in-None.ensures in
     record {
       named = (

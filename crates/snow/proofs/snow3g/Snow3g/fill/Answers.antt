@@ -8,4 +8,4 @@ pub returns : goal.returns
 returns c =
     let ws = c.args.words.now in
     let left = c.if-words-ne19.false in
-    rw (eq-eqb (length ws) 19 left) (refl, ap (λ front. state_of front (at ws 16) (at ws 17) (at ws 18)) c.first-sixteen-self.ensures ∙ nineteen ws left)
+    rw (eq-eqb (length ws) 19 left) (refl, ap (λ front. state_of front (at ws 16) (at ws 17) (at ws 18)) c.first_sixteen-self.ensures ∙ nineteen ws left)

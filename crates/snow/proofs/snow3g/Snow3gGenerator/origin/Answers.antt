@@ -1,4 +1,4 @@
-use Rattle.std.proofs.Common.{◌≡◌, refl, arith}
+use Rattle.std.proofs.Common.{refl, arith}
 use Rattle.snow.specs.Snow3g.{state_of}
 use Rattle.snow.specs.Snow2Parts.{words_fit}
 use Rattle.snow.specs.Snow3gParts.{state_fits}
@@ -32,7 +32,7 @@ returns-in-Some c =
     record {
       named =
           named (state_of x.words x.r1 x.r2 x.r3) y.words y.r1 y.r2 y.r3 (state_fits x.words x.r1 x.r2 x.r3 x.count x.fits x.fits_r1 x.fits_r2 x.fits_r3) (words_fit y.words y.count y.fits) c.rewind.ensures (omega arith) (omega arith) (omega arith)
-          c.args.key.now c.args.iv.now c.name-256.new.key c.name-256.new.iv c.in-Some.lengths (omega arith) (omega arith) c.in-Some.ensures;
+          c.args.key.now c.args.iv.now c.name_256.new.key c.name_256.new.iv c.in-Some.lengths (omega arith) (omega arith) c.in-Some.ensures;
       same = refl;
     }
 
