@@ -16,5 +16,5 @@ fn main() {
 
 fn default_library() -> PathBuf {
     let here = env::var_os("CARGO_MANIFEST_DIR").expect("cargo names the folder of the package");
-    PathBuf::from(here).join("../target/staticlib/libexports.a")
+    PathBuf::from(here).join("../crates/exports/out/libexports.a")
 }

@@ -1,8 +1,7 @@
 // The tables that are held, by the calls that give their entries.
-
-// S1(i) and S2(i) are the shares of the bytes in the word boxes, byte 0 the least significant.
 use anyhow::anyhow;
 
+// S1(i) and S2(i) are the shares of the bytes in the word boxes, byte 0 the least significant.
 #[derive(Clone, Copy)]
 pub(crate) enum Table {
     Sr,

@@ -41,6 +41,10 @@ mod tests {
         assert_eq!(rt; byte_at(0x01020304, 0), 1);
         assert_eq!(rt; byte_at(0x01020304, 3), 4);
         assert_eq!(rt; byte_at(0x01020304, 6), 3);
+    }
+
+    #[test]
+    fn words_of_bytes(rt: HostRuntime) {
         assert_eq!(rt; word_at(&[0, 0, 0, 0, 1, 2, 3, 4, 5], 1), 0x01020304);
         assert_eq!(rt; word_at(&[0, 0, 0, 0, 1, 2, 3, 4, 5], 2), 0);
     }
