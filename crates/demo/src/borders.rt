@@ -1,5 +1,4 @@
 // Calls at the border of what is accepted.
-use generator::Generator;
 use session::{Refusal, Session};
 use snow::{Snow2, label};
 

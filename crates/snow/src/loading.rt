@@ -141,8 +141,8 @@ fn iv_256(a: [u32; 16]) -> [u32; 4]
 
 // Puts the key and the IV of a register before the first step, with a 128-bit key, at the front of two buffers.
 pub(crate) fn name_128(words: [u32; 16], key: &mut [u8], iv: &mut [u8]) -> Option<(usize, usize)>
-    requires in_bounds { 255 ≤ length key.old }
-    requires in_bounds_2 { 255 ≤ length iv.old }
+    requires key_room { 255 ≤ length key.old }
+    requires iv_room { 255 ≤ length iv.old }
     ensures { Read key_128 iv_128 expanded_128 words result key.old iv.old key.new iv.new }
 {
     let mut k = key_128(words);
@@ -159,8 +159,8 @@ pub(crate) fn name_128(words: [u32; 16], key: &mut [u8], iv: &mut [u8]) -> Optio
 
 // The same with a 256-bit key.
 pub(crate) fn name_256(words: [u32; 16], key: &mut [u8], iv: &mut [u8]) -> Option<(usize, usize)>
-    requires in_bounds { 255 ≤ length key.old }
-    requires in_bounds_2 { 255 ≤ length iv.old }
+    requires key_room { 255 ≤ length key.old }
+    requires iv_room { 255 ≤ length iv.old }
     ensures { Read key_256 iv_256 expanded_256 words result key.old iv.old key.new iv.new }
 {
     let mut k = key_256(words);
