@@ -17,7 +17,7 @@ use compare::Tally;
 
 const USAGE: &str = "harness --sheet PROGRAM [--seed N] [--cases N] [--strips N] [--no-speed]
   --sheet PROGRAM  the program sheet, to be run on strips
-  --seed N         the seed of all random inputs (default 1)
+  --seed N         the number that all random inputs are made from (default 1)
   --cases N        random inputs through the library (default 300000)
   --strips N       strips for the program (default 3000)
   --no-speed       compare only";
