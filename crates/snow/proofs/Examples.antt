@@ -6,8 +6,7 @@ use Rattle.fields.specs.Boxes.{rotated, affine, sr, sq, undone}
 use Rattle.fields.specs.Mixing.{mixed_bytes, mixed, boxed, unmixed, s1, s2, s1_undone}
 use Rattle.fields.specs.Alpha.{times_beta, mul_alpha, div_alpha, times_alpha, over_alpha}
 use Rattle.fields.proofs.Undone.{sr_bijective, undone_is}
-use Rattle.snow.specs.Snow2.{step, unstep}
-use Rattle.snow.specs.Snow3g.{step as step-3g}
+use Rattle.snow.specs.Cipher.{step, unstep}
 use Rattle.snow.specs.Specimens.{Specimens}
 
 undone_0 : undone sr 0 ≡ 0x52
@@ -19,7 +18,7 @@ unfolding doubled mixed_bytes mixed boxed unmixed s1_undone
 back_0 = ap (λ b. word b b b b) undone_0
 
 pub specimens : Specimens
-unfolding doubled doublings partial_product product power rotated affine sr sq mixed_bytes mixed boxed s1 s2 times_beta mul_alpha div_alpha times_alpha over_alpha step unstep step-3g
+unfolding doubled doublings partial_product product power rotated affine sr sq mixed_bytes mixed boxed s1 s2 times_beta mul_alpha div_alpha times_alpha over_alpha step unstep
 specimens = record {
   doubled_69 = refl;
   doubled_96 = refl;

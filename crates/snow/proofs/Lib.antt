@@ -1,5 +1,5 @@
 pub mod Written
-pub mod Snow2Origin
-pub mod Snow3gOrigin
-pub mod Examples
+pub mod CipherParts
+pub mod CipherOrigin
 pub mod Labelled
+pub mod Examples

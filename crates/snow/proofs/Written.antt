@@ -4,20 +4,6 @@ use Rattle.std.proofs.lemmas.List.{append_assoc, take_more, length-take-le, drop
 use Rattle.words.specs.Words.{bytes_of, words_bytes}
 use Rattle.words.proofs.Bytes.{length_bytes}
 
-pub four_written : (xs : List ℕ) (n a b c d : ℕ) → n + 4 ≤ length xs
-    → set (set (set (set xs n a) (n + 1) b) (n + 2) c) (n + 3) d ≡ take n xs ++ (a ∷ b ∷ c ∷ d ∷ drop (n + 4) xs)
-four_written [] n a b c d h = absurd (omega arith)
-four_written (x ∷ []) n a b c d h = absurd (omega arith)
-four_written (x ∷ y ∷ []) n a b c d h = absurd (omega arith)
-four_written (x ∷ y ∷ z ∷ []) n a b c d h = absurd (omega arith)
-four_written (x ∷ y ∷ z ∷ u ∷ xs) zero a b c d h = refl
-four_written (x ∷ y ∷ z ∷ u ∷ xs) (suc n) a b c d h =
-    let e1 : suc n + 1 ≡ suc (n + 1) = omega arith in
-    let e2 : suc n + 2 ≡ suc (n + 2) = omega arith in
-    let e3 : suc n + 3 ≡ suc (n + 3) = omega arith in
-    let e4 : suc n + 4 ≡ suc (n + 4) = omega arith in
-    rw (e1, e2, e3, e4) (ap (λ ys. x ∷ ys) (four_written (y ∷ z ∷ u ∷ xs) n a b c d (omega arith)))
-
 words_bytes_append : (vs ws : List ℕ) → words_bytes (vs ++ ws) ≡ words_bytes vs ++ words_bytes ws
 words_bytes_append [] ws = refl
 words_bytes_append (v ∷ vs) ws = ap (λ bs. bytes_of v ++ bs) (words_bytes_append vs ws)

@@ -1,5 +1,5 @@
 -- What the ciphers load before their first steps. Assumes nothing.
-use Rattle.std.specs.Prelude.{ℕ, List, ◌++◌, map, slice_set}
+use Rattle.std.specs.Prelude.{ℕ, cond, List, ◌++◌, map, length, slice_set, ◌==◌}
 use Rattle.words.specs.Words.{◌⊕◌}
 use Rattle.snow.specs.Register.{at}
 
@@ -16,6 +16,10 @@ expanded_128 k = map inverted k ++ (k ++ (map inverted k ++ k))
 -- (ISO/IEC 18033-4:2005, 7.2.1, step 1b; ETSI/SAGE SNOW 3G 256 v0.3, 4.1)
 abbrev pub expanded_256 : List ℕ → List ℕ
 expanded_256 k = map inverted k ++ k
+
+-- a key of four words or of eight
+unfoldable pub expanded : List ℕ → List ℕ
+expanded k = cond (length k == 4) (expanded_128 k) (expanded_256 k)
 
 -- IV0 is joined to word 15, IV1 to 12, IV2 to 10 and IV3 to 9 (ISO/IEC 18033-4:2005, 7.2.1, step 2; ETSI/SAGE SNOW 3G 256 v0.3, 4.1)
 abbrev pub with_iv : List ℕ → List ℕ → List ℕ

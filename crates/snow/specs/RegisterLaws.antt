@@ -1,5 +1,5 @@
 -- The bare register keeps the laws of generators. Assumes nothing.
-use Rattle.std.specs.Prelude.{◌≡◌, ℕ, ◌*◌, ◌^◌, ◌≤◌, ◌⊎◌, List, [], ◌∷◌, ◌++◌, reverse, length, drop, Ok, Err, refl}
+use Rattle.std.specs.Prelude.{◌≡◌, ℕ, ◌*◌, ◌^◌, ◌<◌, ◌≤◌, ◌⊎◌, slice_index, List, [], ◌∷◌, ◌++◌, reverse, length, drop, Ok, Err, refl}
 use Rattle.std.proofs.Common.{sym, ap, subst, ◌∙◌, arith, eq-eqb}
 use Rattle.std.proofs.lemmas.Bool.Decides.{nat_tests}
 use Rattle.std.proofs.lemmas.List.{nil_from_length}
@@ -9,13 +9,17 @@ use Rattle.generator.specs.Meaning.{State, Lawful, Reaches}
 use Rattle.generator.specs.Calls.{Named}
 use Rattle.words.specs.Words.{words_bytes}
 use Rattle.words.proofs.Bytes.{bytes_of_bytes, length_bytes}
-use Rattle.words.proofs.Words.{fits_append}
+use Rattle.words.proofs.Words.{fits_append, below_everywhere, all_from_each}
 use Rattle.words.proofs.Spelled.{spell, fits_spell}
 use Rattle.fields.specs.Alpha.{over_alpha}
 use Rattle.snow.specs.Register.{at, feedback, shifted, unshifted, numbered, register_load, register}
 use Rattle.snow.specs.Origins.{unnumbered}
 use Rattle.snow.specs.Numbers.{numbered_state, numbered_one, plain_member, numbered_unnumbered, length_unnumbered}
 use Rattle.snow.specs.ShiftLaws.{feedback_below, dropped_below, plain_back, plain_again, words_of_state}
+
+-- sixteen words, from a bound on each
+pub register_fits : (ws : List ℕ) → length ws ≡ 16 → ((i : ℕ) → i < 16 → slice_index ws i < 2 ^ 32) → State 16 ws
+register_fits ws len each = record { count = len; fits = all_from_each (2 ^ 32) ws (below_everywhere (2 ^ 32) 16 ws (omega arith) len each) }
 
 register_next_state : {s : List ℕ} → State 16 s → State 16 (register.next s)
 register_next_state {s} st =

@@ -1,20 +1,18 @@
-// The bare register of SNOW 2.0 and SNOW 3G.
+// The register that SNOW 2.0 and SNOW 3G share, and the bare register as a generator.
 ghost use Rattle.std.specs.Prelude.{◌≡◌, ℕ, ◌^◌, ◌<◌, length, replicate, slice_index};
 ghost use Rattle.snow.specs.Refusals.{Filled};
-ghost use Rattle.snow.specs.Register.{register};
-ghost use Rattle.snow.specs.RegisterLaws.{register_lawful};
-ghost use Rattle.std.proofs.Common.{arith};
-ghost use Rattle.words.proofs.Words.{below_everywhere, all_from_each};
+ghost use Rattle.snow.specs.Register.{feedback, shifted, unshifted, register};
+ghost use Rattle.snow.specs.RegisterLaws.{register_lawful, register_fits};
 
 use crate::bytes::{numbered_words, put_words};
 use crate::refusals::FillFault;
-use crate::shifts::{feedback, shift_in, shift_out};
+use fields::{over_alpha, times_alpha};
 use generator::{Fault, Generator, OriginFault};
 
 // Sixteen words, a0 first.
 #[derive(Clone, Copy)]
 pub struct Register {
-    words: [u32; 16],
+    pub(crate) words: [u32; 16],
     ghost count: { length words ≡ 16 },
     ghost fits: { (i : ℕ) → i < 16 → slice_index words i < 2 ^ 32 },
 }
@@ -34,10 +32,32 @@ impl Register {
         if words.len() != 16 {
             return Err(FillFault::WrongCount);
         }
-        let mut copy = [0u32; 16];
-        copy.copy_from_slice(words);
-        self.words = copy;
+        self.words.copy_from_slice(words);
         Ok(())
+    }
+
+    // What a plain step shifts in.
+    pub(crate) fn feedback(&self) -> u32
+        ensures { result ≡ feedback self.now.words }
+    {
+        times_alpha(self.words[0]) ^ self.words[2] ^ over_alpha(self.words[11])
+    }
+
+    // Each word in the place before it, and a new one in the last.
+    pub(crate) fn shift_in(&mut self, new: u32)
+        ensures { self.new.words ≡ shifted self.old.words new }
+    {
+        self.words.rotate_left(1);
+        self.words[15] = new;
+    }
+
+    // Back over a step that joined `fed` to what it shifted in.
+    pub(crate) fn shift_out(&mut self, fed: u32)
+        ensures { self.new.words ≡ unshifted self.old.words fed }
+    {
+        let old = over_alpha(self.words[15] ^ fed ^ self.words[1] ^ over_alpha(self.words[10]));
+        self.words.rotate_right(1);
+        self.words[0] = old;
     }
 }
 
@@ -48,7 +68,7 @@ impl Generator for Register {
 
     ghost lawful = { register_lawful };
 
-    ghost valid = { λ x. record { count = x.count; fits = all_from_each (2 ^ 32) x.words (below_everywhere (2 ^ 32) 16 x.words (omega arith) x.count x.fits) } };
+    ghost valid = { λ x. register_fits x.words x.count x.fits };
 
     fn load(&mut self, key: &[u8], iv: &[u8]) -> Result<(), Fault> {
         self.clear();
@@ -63,12 +83,12 @@ impl Generator for Register {
     }
 
     fn forward(&mut self) {
-        let new = feedback(&self.words);
-        self.words = shift_in(self.words, new);
+        let new = self.feedback();
+        self.shift_in(new);
     }
 
     fn backward(&mut self) {
-        self.words = shift_out(self.words, 0);
+        self.shift_out(0);
     }
 
     fn word(&mut self) -> u32 {
@@ -76,7 +96,7 @@ impl Generator for Register {
     }
 
     fn clear(&mut self) {
-        self.words = [0; 16];
+        *self = Register::new();
     }
 
     fn origin(&mut self, key: &mut [u8], iv: &mut [u8]) -> Result<(usize, usize), OriginFault> {

@@ -1,5 +1,5 @@
 -- A list of known length, written out element by element. Assumes nothing.
-use Rattle.std.proofs.Common.{◌≡◌, ℕ, zero, suc, ◌<◌, List, [], ◌∷◌, length, get_or, sym, refl, ap, ◌∙◌, arith}
+use Rattle.std.proofs.Common.{◌≡◌, ℕ, zero, suc, ◌<◌, ◌≤◌, List, [], ◌∷◌, ◌++◌, length, get_or, drop, sym, refl, ap, ◌∙◌, subst, arith}
 use Rattle.words.specs.Words.{AllBelow}
 
 -- n elements from place i on
@@ -16,6 +16,16 @@ spelled zero [] h = refl
 spelled zero (x ∷ xs) h = absurd (omega arith)
 spelled (suc n) [] h = absurd (omega arith)
 spelled (suc n) (x ∷ xs) h = ap (λ ys. x ∷ ys) (spelled n xs (omega arith) ∙ sym (spell_rest n 0 x xs))
+
+-- a property of n elements that are written out
+pub by_words : (n : ℕ) (P : List ℕ → Type 0) (xs : List ℕ) → length xs ≡ n → P (spell n 0 xs) → P xs
+by_words n P xs len = subst P (sym (spelled n xs len))
+
+-- the first n elements written out, and the rest
+pub spelled_front : (n : ℕ) (xs : List ℕ) → n ≤ length xs → xs ≡ spell n 0 xs ++ drop n xs
+spelled_front zero xs h = refl
+spelled_front (suc n) [] h = absurd (omega arith)
+spelled_front (suc n) (x ∷ xs) h = ap (λ ys. x ∷ ys) (spelled_front n xs (omega arith) ∙ ap (λ ys. ys ++ drop n xs) (sym (spell_rest n 0 x xs)))
 
 pub fits_spell : (b n i : ℕ) (xs : List ℕ) → ((k : ℕ) → get_or xs k 0 < b) → AllBelow b (spell n i xs)
 fits_spell b zero i xs all = tt

@@ -1,11 +1,11 @@
 -- Words by their bytes. Assumes nothing.
-use Rattle.std.proofs.Common.{◌≡◌, ℕ, zero, suc, ◌+◌, ◌*◌, ◌/◌, ◌%◌, ◌^◌, ◌<◌, List, [], ◌∷◌, ◌++◌, reverse, length, get_or, sym, refl, ap, ◌∙◌, subst, ap₂, ⊎_elim, arith}
+use Rattle.std.proofs.Common.{◌≡◌, ℕ, zero, suc, ◌+◌, ◌*◌, ◌/◌, ◌%◌, ◌^◌, ◌<◌, List, [], ◌∷◌, ◌++◌, replicate, reverse, length, get_or, take, drop, sym, refl, ap, ◌∙◌, subst, ap₂, ⊎_elim, arith}
 use mathlib.Core.List.{reverse_aux}
 use native.Mathlib.Nat.{div-div-eq-div-mul}
 use lib.Bits.{bit_xor, bit_or, xor_block, or_shifted}
 use Rattle.std.proofs.lemmas.List.{get_or_past}
 use Rattle.std.proofs.lemmas.Bool.{cases_lt}
-use Rattle.words.specs.Words.{AllBelow, word, byte_of}
+use Rattle.words.specs.Words.{AllBelow, word, byte_of, bytes_of}
 
 -- the word of four bytes, by one byte after the other
 horner : (a b c d : ℕ) → word a b c d ≡ ((a * 256 + b) * 256 + c) * 256 + d
@@ -45,6 +45,10 @@ byte_3 a b c d hd = omega arith
 
 pub byte_low : (w : ℕ) → w % 256 ≡ byte_of w 3
 byte_low w = omega arith
+
+-- the bytes of a word, as `to_be_bytes` answers them
+pub be_bytes : (w : ℕ) → byte_of w 0 ∷ byte_of w 1 ∷ byte_of w 2 ∷ (w % 256) ∷ [] ≡ bytes_of w
+be_bytes w = ap (λ b. byte_of w 0 ∷ byte_of w 1 ∷ byte_of w 2 ∷ b ∷ []) (byte_low w)
 
 -- a word is the word of its bytes
 pub word_bytes : (w : ℕ) → w < 2 ^ 32 → word (byte_of w 0) (byte_of w 1) (byte_of w 2) (byte_of w 3) ≡ w
@@ -88,7 +92,17 @@ turn_24 a b c d ha hb hc hd =
     let f : word a b c d / 256 ≡ a * 65536 + b * 256 + c = omega arith in
     rw (e, f) (or_shifted d 24 (a * 65536 + b * 256 + c) (omega arith) ∙ omega arith)
 
--- what is below b throughout stays so where lists are joined, reversed and written out
+-- what is below b throughout stays so where lists are cut, joined and reversed
+pub fits_take : (b n : ℕ) (xs : List ℕ) → AllBelow b xs → AllBelow b (take n xs)
+fits_take b zero xs h = tt
+fits_take b (suc n) [] h = tt
+fits_take b (suc n) (x ∷ xs) h = (h.0, fits_take b n xs h.1)
+
+pub fits_drop : (b n : ℕ) (xs : List ℕ) → AllBelow b xs → AllBelow b (drop n xs)
+fits_drop b zero xs h = h
+fits_drop b (suc n) [] h = tt
+fits_drop b (suc n) (x ∷ xs) h = fits_drop b n xs h.1
+
 pub fits_append : (b : ℕ) (xs ys : List ℕ) → AllBelow b xs → AllBelow b ys → AllBelow b (xs ++ ys)
 fits_append b [] ys hx hy = hy
 fits_append b (x ∷ xs) ys hx hy = (hx.0, fits_append b xs ys hx.1 hy)
@@ -96,6 +110,10 @@ fits_append b (x ∷ xs) ys hx hy = (hx.0, fits_append b xs ys hx.1 hy)
 fits_reverse_onto : (b : ℕ) (xs ys : List ℕ) → AllBelow b xs → AllBelow b ys → AllBelow b (reverse_aux xs ys)
 fits_reverse_onto b [] ys hx hy = hy
 fits_reverse_onto b (x ∷ xs) ys hx hy = fits_reverse_onto b xs (x ∷ ys) hx.1 (hx.0, hy)
+
+pub fits_replicate : (b x n : ℕ) → x < b → AllBelow b (replicate n x)
+fits_replicate b x zero h = tt
+fits_replicate b x (suc n) h = (h, fits_replicate b x n h)
 
 pub fits_reverse : (b : ℕ) (xs : List ℕ) → AllBelow b xs → AllBelow b (reverse xs)
 fits_reverse b xs h = fits_reverse_onto b xs [] h tt

@@ -1,15 +1,22 @@
-use Rattle.std.proofs.Common.{◌≡◌, ◌*◌, ◌++◌, length, take, drop, ap, ◌∙◌, arith}
-use Rattle.std.proofs.lemmas.List.{take_all}
+use Rattle.std.proofs.Common.{◌≡◌, ◌+◌, ◌-◌, ◌*◌, [], ◌∷◌, ◌++◌, length, get_or, take, drop, ap, ap₂, ◌∙◌, arith}
+use Rattle.std.proofs.lemmas.List.{take_all, drop-drop}
 use Rattle.words.specs.Words.{words_bytes}
+use Rattle.words.proofs.Words.{be_bytes}
 use Rattle.snow.proofs.Written.{word_more}
 use Rattle.snow.proofs.bytes.put_words.Goals as goal
 
-pub loop-i-preserved : goal.loop-i-preserved
-loop-i-preserved c =
-    c.put_word.ensures ∙ word_more c.args.words.now c.args.buffer.now c.loop-i.buffer c.loop-i.i (omega arith) (omega (arith, c.requires)) c.loop-i.invariant
+pub loop-place-preserved : goal.loop-place-preserved
+loop-place-preserved c =
+    let at = 4 * c.loop-place.place in
+    let buffer = c.loop-place.buffer in
+    let w = get_or c.args.words.now c.loop-place.place 0 in
+    let four : at + (at + 4 - at) ≡ at + 4 = omega arith in
+    let bytes = c.copy_from_slice.ensures.after ∙ c.to_be_bytes.ensures ∙ be_bytes w in
+    ap₂ (λ xs ys. take at buffer ++ (xs ++ ys)) bytes (drop-drop (at + 4 - at) at buffer ∙ ap (λ n. drop n buffer) four)
+    ∙ word_more c.args.words.now c.args.buffer.now buffer c.loop-place.place (omega arith) (omega (arith, c.requires)) c.loop-place.invariant
 
 pub returns : goal.returns
 returns c =
     let ws = c.args.words.now in
-    let end : c.loop-i.i ≡ length ws = omega arith in
-    c.loop-i.invariant ∙ ap (λ n. words_bytes (take n ws) ++ drop (4 * n) c.args.buffer.now) end ∙ ap (λ xs. words_bytes xs ++ drop (4 * length ws) c.args.buffer.now) (take_all (length ws) ws (omega arith))
+    let end : c.loop-place.place ≡ length ws = omega arith in
+    c.loop-place.invariant ∙ ap (λ n. words_bytes (take n ws) ++ drop (4 * n) c.args.buffer.now) end ∙ ap (λ xs. words_bytes xs ++ drop (4 * length ws) c.args.buffer.now) (take_all (length ws) ws (omega arith))
