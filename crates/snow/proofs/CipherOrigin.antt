@@ -1,5 +1,5 @@
 -- What origin answers of a cipher. Assumes nothing.
-use Rattle.std.proofs.Common.{◌≡◌, ℕ, ◌+◌, ◌*◌, ◌≤◌, Bool, true, false, ◌⊎◌, List, ◌++◌, reverse, length, take, drop, replicate, Option, Some, None, Result, Ok, ok_or, inl, sym, refl, ap, ◌∙◌, subst, ap₂, ⊎_elim, arith, eq-eqb}
+use Rattle.std.proofs.Common.{◌≡◌, ℕ, ◌+◌, ◌*◌, ◌≤◌, true, ◌⊎◌, List, ◌++◌, reverse, length, take, drop, replicate, Option, Some, None, Result, Ok, ok_or, inl, sym, refl, ap, ◌∙◌, subst, ap₂, ⊎_elim, arith, eq-eqb}
 use Rattle.std.proofs.lemmas.List.{take_at, drop_at}
 use Rattle.generator.specs.Meaning.{State, Reaches}
 use Rattle.generator.specs.Calls.{Loaded, Named}
@@ -19,7 +19,7 @@ use Rattle.snow.specs.States.{state_of}
 use Rattle.snow.specs.declared.register.Register.{Register}
 use Rattle.snow.specs.declared.cipher.Snow.{Snow}
 use Rattle.snow.specs.CipherSteps.{steps}
-use Rattle.snow.specs.CipherLaws.{joined_state, Load, says, key_words, iv_words, register_state, rewound_start}
+use Rattle.snow.specs.CipherLaws.{joined_state, says, key_words, iv_words, register_state, rewound_start}
 
 pub register_state_of : (r : Register) → State 16 r.words
 register_state_of r = register_fits r.words r.count r.fits

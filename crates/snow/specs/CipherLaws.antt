@@ -1,5 +1,5 @@
 -- A cipher of register and machine keeps the laws of generators. Assumes nothing.
-use Rattle.std.specs.Prelude.{◌≡◌, ℕ, ◌+◌, ◌*◌, ◌^◌, ◌<◌, ◌≤◌, Bool, true, false, cond, ◌⊎◌, List, ◌++◌, length, replicate, Ok, Err, Result, ◌==◌, refl}
+use Rattle.std.specs.Prelude.{◌≡◌, ℕ, ◌+◌, ◌*◌, ◌^◌, ◌≤◌, Bool, true, false, cond, ◌⊎◌, List, ◌++◌, length, replicate, Ok, Err, Result, ◌==◌, refl}
 use Rattle.std.proofs.Common.{sym, ap, subst, ◌∙◌, ⊎_elim, inl, inr, arith}
 use Rattle.std.proofs.lemmas.Bool.Decides.{nat_tests}
 use Rattle.std.proofs.lemmas.List.{length-append, length-replicate, append_cancel_right}
@@ -11,7 +11,7 @@ use Rattle.words.proofs.Words.{fits_append, fits_replicate}
 use Rattle.snow.specs.Register.{numbered}
 use Rattle.snow.specs.Loading.{expanded, with_iv}
 use Rattle.snow.specs.Machines.{Machine, Sound}
-use Rattle.snow.specs.Cipher.{step, feed, unstep, unfeed, prepared, started, cipher_load, cipher}
+use Rattle.snow.specs.Cipher.{step, feed, unstep, unfeed, prepared, started, cipher}
 use Rattle.snow.specs.Numbers.{numbered_state, numbered_one, plain_member}
 use Rattle.snow.specs.LoadLaws.{expanded_state, with_iv_state, read_one, lengths_apart}
 use Rattle.snow.specs.Starts.{started_state, rewound_started}

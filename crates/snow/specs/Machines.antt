@@ -1,5 +1,5 @@
 -- The finite state machine that a cipher has beside the register. Assumes nothing.
-use Rattle.std.specs.Prelude.{◌≡◌, ℕ, ◌^◌, ◌<◌, ◌≤◌, ◌⊎◌, Bool, true, List}
+use Rattle.std.specs.Prelude.{◌≡◌, ℕ, ◌^◌, ◌<◌, ◌⊎◌, Bool, true, List}
 use Rattle.generator.specs.Meaning.{State}
 
 -- what SNOW 2.0 and SNOW 3G differ in

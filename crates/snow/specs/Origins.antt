@@ -1,5 +1,5 @@
 -- What origin reads off a register before the first step. Assumes nothing.
-use Rattle.std.specs.Prelude.{◌≡◌, ℕ, ◌*◌, List, [], ◌∷◌, ◌++◌, map, reverse, length, take, drop, Some, None, Option, ◌≢◌}
+use Rattle.std.specs.Prelude.{◌≡◌, ℕ, ◌*◌, List, [], ◌∷◌, ◌++◌, map, reverse, take, drop, Some, None, Option}
 use Rattle.words.specs.Words.{◌⊕◌, words_bytes}
 use Rattle.snow.specs.Register.{at}
 use Rattle.snow.specs.Loading.{inverted, expanded, with_iv}

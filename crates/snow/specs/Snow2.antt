@@ -1,5 +1,5 @@
 -- SNOW 2.0 (ISO/IEC 18033-4:2005, 7.2): eighteen words a0 to a15, b1, b2. Assumes nothing.
-use Rattle.std.specs.Prelude.{ℕ, Bool, ◌||◌, List, [], ◌∷◌, ◌==◌}
+use Rattle.std.specs.Prelude.{ℕ, ◌||◌, List, [], ◌∷◌, ◌==◌}
 use Rattle.fields.specs.Mixing.{s1, s1_undone}
 use Rattle.generator.specs.Meaning.{Meaning}
 use Rattle.snow.specs.Register.{at, plus, minus}

@@ -1,6 +1,6 @@
 -- The machine of SNOW 2.0 is sound. Assumes nothing.
-use Rattle.std.specs.Prelude.{◌≡◌, ℕ, ◌^◌, ◌<◌, ◌⊎◌, true, List, [], ◌∷◌, refl, ◌||◌, ◌==◌}
-use Rattle.std.proofs.Common.{ap₂, arith}
+use Rattle.std.specs.Prelude.{◌≡◌, ℕ, ◌^◌, ◌<◌, ◌⊎◌, true, List, refl, ◌||◌, ◌==◌}
+use Rattle.std.proofs.Common.{arith}
 use Rattle.std.proofs.lemmas.Bool.Decides.{nat_tests}
 use Rattle.fields.proofs.WordBoxes.{s1_inverse}
 use Rattle.generator.specs.Meaning.{State}

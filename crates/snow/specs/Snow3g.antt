@@ -1,5 +1,5 @@
 -- SNOW 3G with 256-bit keys (ETSI/SAGE SNOW 3G 256 v0.3): nineteen words s0 to s15, R1, R2, R3. Assumes nothing.
-use Rattle.std.specs.Prelude.{ℕ, Bool, List, [], ◌∷◌, ◌==◌}
+use Rattle.std.specs.Prelude.{ℕ, List, [], ◌∷◌, ◌==◌}
 use Rattle.words.specs.Words.{◌⊕◌}
 use Rattle.fields.specs.Mixing.{s1, s1_undone, s2, s2_undone}
 use Rattle.generator.specs.Meaning.{Meaning}

@@ -17,7 +17,11 @@ pub(crate) fn expand<const N: usize>(key: &[u32; N]) -> [u32; 16]
     let mut words = [0; 16];
     for (place, word) in words.iter_mut().enumerate() {
         let plain = key[place % N];
-        *word = if place / N % 2 == 0 { plain ^ ONES } else { plain };
+        *word = if place / N % 2 == 0 {
+            plain ^ ONES
+        } else {
+            plain
+        };
     }
     words
 }

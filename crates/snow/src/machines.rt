@@ -1,6 +1,7 @@
 // The finite state machine that a cipher has beside the register.
 ghost use Rattle.std.specs.Prelude.{◌≡◌, ℕ, List, length, replicate, MatchBool, MatchResult, ◌≢◌};
 ghost use Rattle.generator.specs.Meaning.{State};
+ghost use Rattle.snow.specs.Register.{at};
 ghost use Rattle.snow.specs.Machines.{Machine as Meaning, Sound};
 ghost use Rattle.snow.specs.Cipher.{output};
 ghost use Rattle.snow.specs.declared.refusals.FillFault.TheVariants.{WrongCount};
@@ -12,10 +13,6 @@ pub trait Machine: Copy {
     ghost machine: { Meaning };
 
     ghost words: { Self → List ℕ };
-
-    // How many words it has.
-    fn size() -> usize
-        ensures { result ≡ machine.size };
 
     // Whether the cipher takes a key of so many bytes.
     fn takes(key_len: usize) -> bool
@@ -32,9 +29,9 @@ pub trait Machine: Copy {
     fn is_zero(&self) -> bool
         ensures { MatchBool result (words self.now ≡ replicate machine.size 0) (words self.now ≢ replicate machine.size 0) };
 
-    // What it gives with word 15 of the register.
-    fn output(&self, word: u32) -> u32
-        ensures { result ≡ output (words self.now) word };
+    // Its first two words, by which it gives to the keystream.
+    fn first_two(&self) -> (u32, u32)
+        ensures { result ≡ (at (words self.now) 0, at (words self.now) 1) };
 
     // A step that reads word 5 of the register.
     fn clock(&mut self, word: u32)
@@ -43,6 +40,14 @@ pub trait Machine: Copy {
     // Back over a step that read this word.
     fn unclock(&mut self, word: u32)
         ensures { words self.new ≡ machine.back (words self.old) word };
+
+    // What it gives with word 15 of the register.
+    final fn output(&self, word: u32) -> u32
+        ensures { result ≡ output (words self.now) word }
+    {
+        let (first, second) = self.first_two();
+        word.wrapping_add(first) ^ second
+    }
 
     ghost sound: { Sound machine };
 

@@ -28,10 +28,6 @@ impl Machine for Snow2Machine {
 
     ghost fits = { λ m. record { count = refl; fits = (m.fits_b1, (m.fits_b2, tt)) } };
 
-    fn size() -> usize {
-        2
-    }
-
     fn takes(key_len: usize) -> bool {
         key_len == 16 || key_len == 32
     }
@@ -51,8 +47,8 @@ impl Machine for Snow2Machine {
         self.b1 == 0 && self.b2 == 0
     }
 
-    fn output(&self, word: u32) -> u32 {
-        word.wrapping_add(self.b1) ^ self.b2
+    fn first_two(&self) -> (u32, u32) {
+        (self.b1, self.b2)
     }
 
     fn clock(&mut self, word: u32) {

@@ -30,10 +30,6 @@ impl Machine for Snow3gMachine {
 
     ghost fits = { λ m. record { count = refl; fits = (m.fits_r1, (m.fits_r2, (m.fits_r3, tt))) } };
 
-    fn size() -> usize {
-        3
-    }
-
     fn takes(key_len: usize) -> bool {
         key_len == 32
     }
@@ -61,8 +57,8 @@ impl Machine for Snow3gMachine {
         self.r1 == 0 && self.r2 == 0 && self.r3 == 0
     }
 
-    fn output(&self, word: u32) -> u32 {
-        word.wrapping_add(self.r1) ^ self.r2
+    fn first_two(&self) -> (u32, u32) {
+        (self.r1, self.r2)
     }
 
     fn clock(&mut self, word: u32) {

@@ -1,7 +1,6 @@
 use Rattle.std.proofs.Common.{◌++◌, sym, ap, ◌∙◌, ap₂}
 use Rattle.snow.specs.Register.{at, unshifted}
-use Rattle.snow.specs.Cipher.{output, unclocked, unfeed}
-use Rattle.snow.specs.States.{state_of}
+use Rattle.snow.specs.Cipher.{output, unfeed}
 use Rattle.snow.proofs.CipherParts.{unclocked_parts, fed_parts}
 use Rattle.snow.proofs.cipher.Snow.unfeed.Goals as goal
 
