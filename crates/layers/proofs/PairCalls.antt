@@ -1,13 +1,12 @@
 -- What loading and origin of a pair answer, from what its members answer. Assumes nothing.
-use Rattle.std.proofs.Common.{◌≡◌, ℕ, ◌+◌, ◌-◌, ◌<◌, ◌≤◌, true, ◌⊎◌, List, ◌++◌, length, take, replicate, is_err, IsErrAnd, Ok, Err, Result, sym, refl, ap, ◌∙◌, subst, ⊎_elim, arith, length-append}
-use Rattle.std.proofs.lemmas.List.{take_at, length-take-le, replicate-append-replicate}
+use Rattle.std.proofs.Common.{◌≡◌, ℕ, ◌+◌, ◌<◌, ◌≤◌, true, ◌⊎◌, List, ◌++◌, length, take, replicate, is_err, IsErrAnd, Ok, Err, Result, sym, refl, ap, ◌∙◌, subst, ⊎_elim, arith}
+use Rattle.std.proofs.lemmas.List.{take_at, replicate-append-replicate}
 use Rattle.generator.specs.declared.Fault.{Fault}
 use Rattle.generator.specs.declared.OriginFault.{OriginFault}
 use Rattle.generator.specs.declared.OriginFault.TheVariants.{NoOrigin}
 use Rattle.generator.specs.Meaning.{Meaning, Lawful, Reaches, State, zeros}
 use Rattle.generator.specs.Calls.{Loaded, Named, AtFront, Roomy}
-use Rattle.layers.specs.declared.origins.Origin.{Origin}
-use Rattle.layers.specs.Origins.{Found, Names}
+use Rattle.layers.specs.Origins.{Names}
 use Rattle.layers.specs.Pair.{joined, pair, BothLoaded}
 use Rattle.layers.specs.PairParts.{BothReach, apart_at, together}
 
@@ -21,7 +20,8 @@ refused a b key iv r s t after p err e = go ((pair a b).load key iv) refl
     go (Ok u) q = let told = rw (q, BothLoaded) at p in let z : ◌≡◌ {A = ℕ} 0 1 = cc in absurd (omega arith)
     go (Err f) q = let told = rw (q, BothLoaded) at p in rw (q, Loaded) (told, e)
 
-reaches_by : {m : Meaning} {x y x' y' s : List ℕ} → x ≡ x' → y ≡ y' → Reaches m x' y' 0 s → Reaches m x y 0 s
+-- the same by equal keys and IVs
+pub reaches_by : {m : Meaning} {x y x' y' s : List ℕ} → x ≡ x' → y ≡ y' → Reaches m x' y' 0 s → Reaches m x y 0 s
 reaches_by {m} {x} {y} {x'} {y'} {s} e e' r = subst (λ l. Reaches m l y 0 s) (sym e) (subst (λ l. Reaches m x' l 0 s) (sym e') r)
 
 -- the buffers that a member is lent
@@ -29,23 +29,11 @@ abbrev lent : List ℕ
 lent = replicate 255 0
 
 -- what a member wrote to the front of them
-pub found : (m : Meaning) (s : List ℕ) (o : Origin) → Named m 0 s lent lent (Ok (o.key_len, o.iv_len)) o.key o.iv → Found m s o
-found m s o named =
-    let own_key = named.1.0 in
-    let own-iv = named.1.1 in
-    let count : length own_key ≡ o.key_len = sym (ap (λ p. p.0) named.1.3) in
-    let count' : length own-iv ≡ o.iv_len = sym (ap (λ p. p.1) named.1.3) in
-    let is = ap (take o.key_len) named.1.4 ∙ take_at own_key _ o.key_len count in
-    let is' = ap (take o.iv_len) named.1.5 ∙ take_at own-iv _ o.iv_len count' in
-    record {
-      key_within = rw named.1.4 (simp length-append (omega arith));
-      iv_within = rw named.1.5 (simp length-append (omega arith));
-      reaches = reaches_by is is' named.1.2;
-    }
-
--- a part from the front on, as a slice has it
-pub part : (n : ℕ) (xs : List ℕ) → take (n - 0) xs ≡ take n xs
-part n xs = ap (λ k. take k xs) (let same : n - 0 ≡ n = omega arith in same)
+pub found : (m : Meaning) (s : List ℕ) (n n' : ℕ) (key iv : List ℕ) → Named m 0 s lent lent (Ok (n, n')) key iv → Reaches m (take n key) (take n' iv) 0 s
+found m s n n' key iv named =
+    let count : length named.1.0 ≡ n = sym (ap (λ p. p.0) named.1.3) in
+    let count' : length named.1.1 ≡ n' = sym (ap (λ p. p.1) named.1.3) in
+    reaches_by (ap (take n) named.1.4 ∙ take_at named.1.0 _ n count) (ap (take n') named.1.5 ∙ take_at named.1.1 _ n' count') named.1.2
 
 -- the fault that a `?` hands on
 pub handed_on : {X : Type 0} (r : Result X OriginFault) (f : OriginFault) → IsErrAnd r (λ e. e ≡ f) → r ≡ Err f
@@ -63,41 +51,21 @@ module _ (a b : Meaning) (la : Lawful a) {s : List ℕ} (st : State a.size s) (t
   pub second_none : (r : Result (ℕ × ℕ) OriginFault) (f : OriginFault) → r ≡ Err f → Names b t (Err f) → Named (pair a b) 0 (s ++ t) key iv r key iv
   second_none r f e none = no_origin r f e none.0 (λ k i both. none.1 _ _ both.second)
 
-  module _ (lb : Lawful b) {first second : Origin} (one : Found a s first) (two : Found b t second) where
-    first_key : length (take first.key_len first.key) ≡ first.key_len
-    first_key = length-take-le _ first.key one.key_within
-
-    first_iv : length (take first.iv_len first.iv) ≡ first.iv_len
-    first_iv = length-take-le _ first.iv one.iv_within
-
-    second_key : length (take second.key_len second.key) ≡ second.key_len
-    second_key = length-take-le _ second.key two.key_within
-
-    second_iv : length (take second.iv_len second.iv) ≡ second.iv_len
-    second_iv = length-take-le _ second.iv two.iv_within
-
-    pub too_long : (254 < first.key_len + second.key_len) ⊎ (254 < first.iv_len + second.iv_len) → Named (pair a b) 0 (s ++ t) key iv (Err NoOrigin) key iv
-    too_long long = no_origin (Err NoOrigin) NoOrigin refl refl (λ x y both.
-        let same = la.load_one both.first one.reaches in
-        let same' = lb.load_one both.second two.reaches in
+  module _ (lb : Lawful b) {x y u v : List ℕ} (one : Reaches a x u 0 s) (two : Reaches b y v 0 t) where
+    pub too_long : (254 < length x + length y) ⊎ (254 < length u + length v) → Named (pair a b) 0 (s ++ t) key iv (Err NoOrigin) key iv
+    too_long long = no_origin (Err NoOrigin) NoOrigin refl refl (λ k i both.
+        let same = la.load_one both.first one in
+        let same' = lb.load_one both.second two in
         ⊎_elim
-        (λ lt. omega (arith, both.key_parts.short, ap length same.0, ap length same'.0, first_key, second_key))
-        (λ lt. omega (arith, both.iv_parts.short, ap length same.1, ap length same'.1, first_iv, second_iv))
+        (λ lt. omega (arith, both.key_parts.short, ap length same.0, ap length same'.0))
+        (λ lt. omega (arith, both.iv_parts.short, ap length same.1, ap length same'.1))
         long)
 
-    -- x, y, u and v are the parts that are joined
-    pub both_named : {x y u v : List ℕ} → x ≡ take first.key_len first.key → y ≡ take second.key_len second.key → u ≡ take first.iv_len first.iv → v ≡ take second.iv_len second.iv
-        → first.key_len + second.key_len ≤ 254 → first.iv_len + second.iv_len ≤ 254
+    -- the keys and the IVs are joined
+    pub both_named : length x + length y ≤ 254 → length u + length v ≤ 254
         → (n n' : ℕ) (key' iv' : List ℕ) → n ≡ length (joined x y) → n' ≡ length (joined u v) → AtFront (joined x y) key key' → AtFront (joined u v) iv iv'
         → Named (pair a b) 0 (s ++ t) key iv (Ok (n, n')) key' iv'
-    both_named {x} {y} {u} {v} ex ey eu ev short short' n n' key' iv' e e' at at' = (
+    both_named short short' n n' key' iv' e e' at at' = (
       room,
-      (
-        joined x y,
-        joined u v,
-        together a b (omega (arith, ap length ex ∙ first_key, ap length ey ∙ second_key)) (omega (arith, ap length eu ∙ first_iv, ap length ev ∙ second_iv)) (reaches_by ex eu one.reaches) (reaches_by ey ev two.reaches),
-        ap (λ l. (l, n')) e ∙ ap (λ l. (length (joined x y), l)) e',
-        at,
-        at',
-      ),
+      (joined x y, joined u v, together a b short short' one two, ap (λ l. (l, n')) e ∙ ap (λ l. (length (joined x y), l)) e', at, at'),
     )

@@ -19,11 +19,6 @@ abbrev pub at_place : ℕ → Fault → Fault
 at_place n (Key member) = Key n
 at_place n (Iv member) = Iv n
 
--- the same of an answer
-abbrev pub answer_at : ℕ → Result Unit Fault → Result Unit Fault
-answer_at n (Ok u) = Ok u
-answer_at n (Err f) = Err (at_place n f)
-
 -- both loads, one after the other, or the first fault
 abbrev pub both_loads : Result (List ℕ) Fault → Result (List ℕ) Fault → Result (List ℕ) Fault
 both_loads (Err f) second = Err (at_place 1 f)

@@ -28,11 +28,11 @@ impl<G> EveryOther<G> {
 }
 
 impl<G: Generator> Generator for EveryOther<G> {
-    ghost meaning = { every_other G.Generator.meaning };
+    ghost meaning = { every_other G.meaning };
 
-    ghost state = { λ x. G.Generator.state x.generator };
+    ghost state = { λ x. G.state x.generator };
 
-    ghost lawful = { every_other_lawful G.Generator.meaning G.Generator.lawful };
+    ghost lawful = { every_other_lawful G.meaning G.Generator.lawful };
 
     ghost valid = { Prim.search rules };
 

@@ -7,6 +7,7 @@ mod every_other;
 mod origins;
 mod pair;
 mod parts;
+mod short;
 
 pub use every_other::EveryOther;
 pub use pair::Pair;

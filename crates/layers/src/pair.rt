@@ -30,36 +30,33 @@ impl<A, B> Pair<A, B> {
     }
 }
 
-// Loads both, unless a fault comes first.
-fn load_both<A: Generator, B: Generator>(
-    first: &mut A,
-    second: &mut B,
-    key: &[u8],
-    iv: &[u8],
-) -> Result<(), Fault>
-    ensures { BothLoaded A.Generator.meaning B.Generator.meaning key.now iv.now result (A.Generator.state first.new) (B.Generator.state second.new) }
-{
-    let Some((first_key, second_key)) = split(key) else {
-        return Err(Fault::Key(0));
-    };
-    let Some((first_iv, second_iv)) = split(iv) else {
-        return Err(Fault::Iv(0));
-    };
-    at_place(first.load(first_key, first_iv), 1)?;
-    at_place(second.load(second_key, second_iv), 2)
+impl<A: Generator, B: Generator> Pair<A, B> {
+    // Loads both, unless a fault comes first.
+    fn load_both(&mut self, key: &[u8], iv: &[u8]) -> Result<(), Fault>
+        ensures { BothLoaded A.meaning B.meaning key.now iv.now result (A.state self.new.first) (B.state self.new.second) }
+    {
+        let (first_key, second_key) = split(key).ok_or(Fault::Key(0))?;
+        let (first_iv, second_iv) = split(iv).ok_or(Fault::Iv(0))?;
+        self.first
+            .load(first_key, first_iv)
+            .map_err(|fault| at_place(fault, 1))?;
+        self.second
+            .load(second_key, second_iv)
+            .map_err(|fault| at_place(fault, 2))
+    }
 }
 
 impl<A: Generator, B: Generator> Generator for Pair<A, B> {
-    ghost meaning = { pair A.Generator.meaning B.Generator.meaning };
+    ghost meaning = { pair A.meaning B.meaning };
 
-    ghost state = { λ x. A.Generator.state x.first ++ B.Generator.state x.second };
+    ghost state = { λ x. A.state x.first ++ B.state x.second };
 
-    ghost lawful = { pair_lawful A.Generator.meaning B.Generator.meaning A.Generator.lawful B.Generator.lawful };
+    ghost lawful = { pair_lawful A.meaning B.meaning A.Generator.lawful B.Generator.lawful };
 
-    ghost valid = { λ x. joined_state A.Generator.meaning.size B.Generator.meaning.size (A.Generator.valid x.first) (B.Generator.valid x.second) };
+    ghost valid = { λ x. joined_state A.meaning.size B.meaning.size (A.Generator.valid x.first) (B.Generator.valid x.second) };
 
     fn load(&mut self, key: &[u8], iv: &[u8]) -> Result<(), Fault> {
-        let loaded = load_both(&mut self.first, &mut self.second, key, iv);
+        let loaded = self.load_both(key, iv);
         if loaded.is_err() {
             self.clear();
         }
@@ -92,15 +89,13 @@ impl<A: Generator, B: Generator> Generator for Pair<A, B> {
         }
         let first = origin_of(&mut self.first)?;
         let second = origin_of(&mut self.second)?;
-        if first.key_len + second.key_len > 254 || first.iv_len + second.iv_len > 254 {
+        let (first_key, second_key) = (first.key.as_slice(), second.key.as_slice());
+        let (first_iv, second_iv) = (first.iv.as_slice(), second.iv.as_slice());
+        if first_key.len() + second_key.len() > 254 || first_iv.len() + second_iv.len() > 254 {
             return Err(OriginFault::NoOrigin);
         }
-        let key_len = join(
-            key,
-            &first.key[0..first.key_len],
-            &second.key[0..second.key_len],
-        );
-        let iv_len = join(iv, &first.iv[0..first.iv_len], &second.iv[0..second.iv_len]);
+        let key_len = join(key, first_key, second_key);
+        let iv_len = join(iv, first_iv, second_iv);
         Ok((key_len, iv_len))
     }
 }

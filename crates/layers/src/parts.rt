@@ -1,7 +1,7 @@
 // The parts of a pair's key and IV, apart and joined.
 ghost use Rattle.std.specs.Prelude.{◌≡◌, ◌+◌, ◌≤◌, length, Some, None, MatchOption};
 ghost use Rattle.generator.specs.Calls.{AtFront};
-ghost use Rattle.layers.specs.Pair.{joined, parts, answer_at};
+ghost use Rattle.layers.specs.Pair.{joined, parts, at_place};
 
 use generator::Fault;
 
@@ -31,13 +31,12 @@ pub(crate) fn join(buffer: &mut [u8], first: &[u8], second: &[u8]) -> usize
     end
 }
 
-// The answer of a member, with a fault by the member's place in the pair.
-pub(crate) fn at_place(answer: Result<(), Fault>, place: u8) -> Result<(), Fault>
-    ensures { result ≡ answer_at place answer }
+// The fault of a member, by the member's place in the pair.
+pub(crate) fn at_place(fault: Fault, place: u8) -> Fault
+    ensures { result ≡ at_place place fault }
 {
-    match answer {
-        Ok(()) => Ok(()),
-        Err(Fault::Key(_)) => Err(Fault::Key(place)),
-        Err(Fault::Iv(_)) => Err(Fault::Iv(place)),
+    match fault {
+        Fault::Key(_) => Fault::Key(place),
+        Fault::Iv(_) => Fault::Iv(place),
     }
 }

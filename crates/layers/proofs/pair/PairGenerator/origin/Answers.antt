@@ -1,7 +1,7 @@
-use Rattle.std.proofs.Common.{◌+◌, ◌<◌, ◌⊎◌, inl, inr, arith}
-use Rattle.layers.proofs.PairCalls.{handed_on, first_none, second_none, too_long, part, both_named}
+use Rattle.std.proofs.Common.{◌+◌, ◌<◌, ◌⊎◌, length, inl, inr, arith}
+use Rattle.layers.proofs.PairCalls.{handed_on, reaches_by, first_none, second_none, too_long, both_named}
 use Rattle.layers.proofs.pair.PairGenerator.origin.Goals as goal
-use Rattle.layers.proofs.pair.PairGenerator.origin.Goals.{then-first-second-gt254-via-then-first-second-gt254, then-first-second-gt254-via-else-first-second-gt254+then-first-second-gt254-2}
+use Rattle.layers.proofs.pair.PairGenerator.origin.Goals.{then-first_key-second_key-gt254-via-then-first_key-second_key-gt254, then-first_key-second_key-gt254-via-else-first_key-second_key-gt254+then-first_iv-second_iv-gt254}
 
 pub returns-in_err-first : goal.returns-in_err-first
 returns-in_err-first g c =
@@ -25,27 +25,30 @@ returns-in_err-second g c =
       same = rw (c.origin_of.ensures.same, c.origin_of-2.ensures.same);
     }
 
-pub returns-then-first-second-gt254 : goal.returns-then-first-second-gt254
-returns-then-first-second-gt254 g c =
-    let first = c.in_ok-first.first in
-    let second = c.in_ok-second.second in
-    let long : (254 < first.key_len + second.key_len) ⊎ (254 < first.iv_len + second.iv_len) =
-    elim c.then-first-second-gt254.branch [ then-first-second-gt254-via-then-first-second-gt254 w ↦ inl w.if-first-second-gt254.true | then-first-second-gt254-via-else-first-second-gt254+then-first-second-gt254-2 w ↦ inr w.if-first-second-gt254-2.true ] in
+pub returns-then-first_key-second_key-gt254 : goal.returns-then-first_key-second_key-gt254
+returns-then-first_key-second_key-gt254 g c =
+    let first = reaches_by c.as_slice-first_key.ensures c.as_slice-first_iv.ensures c.in_ok-first.ensures.named in
+    let second = reaches_by c.as_slice-second_key.ensures c.as_slice-second_iv.ensures c.in_ok-second.ensures.named in
+    let long : (254 < length c.as_slice-first_key.result.now + length c.as_slice-second_key.result.now) ⊎ (254 < length c.as_slice-first_iv.result.now + length c.as_slice-second_iv.result.now) =
+    elim c.then-first_key-second_key-gt254.branch [
+      | then-first_key-second_key-gt254-via-then-first_key-second_key-gt254 w ↦ inl w.if-first_key-second_key-gt254.true
+      | then-first_key-second_key-gt254-via-else-first_key-second_key-gt254+then-first_iv-second_iv-gt254 w ↦ inr w.if-first_iv-second_iv-gt254.true
+    ] in
     record {
       named =
           too_long g.A.Generator.meaning g.B.Generator.meaning g.met.A.Generator.lawful (g.met.A.Generator.valid c.args.self.now.first) (g.B.Generator.state c.args.self.now.second) c.args.key.now c.args.iv.now (omega arith, omega arith)
-          g.met.B.Generator.lawful c.in_ok-first.ensures.named c.in_ok-second.ensures.named long;
+          g.met.B.Generator.lawful first second long;
       same = rw (c.origin_of.ensures.same, c.origin_of-2.ensures.same);
     }
 
 pub returns : goal.returns
 returns g c =
-    let first = c.in_ok-first.first in
-    let second = c.in_ok-second.second in
+    let first = reaches_by c.as_slice-first_key.ensures c.as_slice-first_iv.ensures c.in_ok-first.ensures.named in
+    let second = reaches_by c.as_slice-second_key.ensures c.as_slice-second_iv.ensures c.in_ok-second.ensures.named in
     record {
       named =
           both_named g.A.Generator.meaning g.B.Generator.meaning g.met.A.Generator.lawful (g.met.A.Generator.valid c.args.self.now.first) (g.B.Generator.state c.args.self.now.second) c.args.key.now c.args.iv.now (omega arith, omega arith)
-          g.met.B.Generator.lawful c.in_ok-first.ensures.named c.in_ok-second.ensures.named (part first.key_len first.key) (part second.key_len second.key) (part first.iv_len first.iv) (part second.iv_len second.iv) (omega arith) (omega arith) _ _ _ _
+          g.met.B.Generator.lawful first second (omega arith) (omega arith) _ _ _ _
           c.join-key_len.ensures.count c.join-iv_len.ensures.count c.join-key_len.ensures.written c.join-iv_len.ensures.written;
       same = rw (c.origin_of.ensures.same, c.origin_of-2.ensures.same);
     }
