@@ -11,7 +11,7 @@ const WORDS: u32 = 4194304;
 // The words of a keystream, each joined to those before it turned by a bit.
 fn checksum<G: Generator>(generator: &mut G, words: u32) -> u32 {
     let mut sum = 0u32;
-    for i in 0..words {
+    for _ in 0..words {
         sum = sum.rotate_left(1) ^ generator.word();
         generator.forward();
     }

@@ -126,9 +126,7 @@ fn trace_generator(rt: &HostRuntime) -> anyhow::Result<()> {
     if generator.load(&KEY, &IV).is_err() {
         return Err(anyhow!("the key has no load"));
     }
-    for n in 0..1000u32 {
-        generator.forward();
-    }
+    generator.forward_by(1000);
     trace_once(rt, &mut generator, 1000)?;
     trace_once(rt, &mut generator, 999)?;
     trace_once(rt, &mut generator, 1048577)

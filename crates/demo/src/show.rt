@@ -1,5 +1,5 @@
 // Printing of bytes, words and origins.
-use anyhow::anyhow;
+use anyhow::Context;
 use generator::Generator;
 
 pub(crate) fn bytes(rt: &HostRuntime, label: &str, bytes: &[u8]) -> anyhow::Result<()> {
@@ -18,10 +18,8 @@ pub(crate) fn front(
     buffer: &[u8],
     count: usize,
 ) -> anyhow::Result<()> {
-    match buffer.get(0..count) {
-        Some(part) => bytes(rt, label, part),
-        None => Err(anyhow!("a length passes its buffer")),
-    }
+    let part = buffer.get(..count).context("a length passes its buffer")?;
+    bytes(rt, label, part)
 }
 
 // The key and the IV behind the present state.
@@ -61,8 +59,6 @@ pub(crate) fn keystream<G: Generator>(
         generator.forward();
     }
     println!(rt; "  stepped back {words} words")?;
-    for n in 0..words {
-        generator.backward();
-    }
+    generator.backward_by(u64::from(words));
     origin(rt, generator)
 }

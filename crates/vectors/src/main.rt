@@ -7,6 +7,7 @@ use std::fs;
 mod ciphers;
 mod hex;
 mod tables;
+mod tally;
 
 use tables::Table;
 
