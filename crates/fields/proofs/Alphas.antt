@@ -7,7 +7,7 @@ use Rattle.words.proofs.Words.{byte_0, byte_3, byte_below, word_bytes, word_belo
 use Rattle.fields.specs.Doubling.{doubled, doublings}
 use Rattle.fields.specs.Alpha.{times_beta, mul_alpha, div_alpha, times_alpha, over_alpha}
 use Rattle.fields.specs.Theorems.{Linear, Inverse}
-use Rattle.fields.proofs.Entries.{all_at}
+use Rattle.fields.proofs.Entries.{agree_at}
 use Rattle.fields.proofs.Fields.{doubled_linear, composed, same_by_bits}
 
 beta_linear : (n : ℕ) → Linear (times_beta n)
@@ -28,7 +28,7 @@ beta_255 : (c : ℕ) → c < 256 → times_beta 255 c ≡ c
 unfolding times_beta doublings doubled
 beta_255 c h =
     same_by_bits (times_beta 255) (λ a. a) (beta_linear 255) (beta_linear 0)
-    (λ k hk. eqb→eq (times_beta 255 (2 ^ k)) (2 ^ k) (all_at 8 (λ k. eqb (times_beta 255 (2 ^ k)) (2 ^ k)) tt k hk)) c h
+    (agree_at 8 (λ k. times_beta 255 (2 ^ k)) (λ k. 2 ^ k) refl) c h
 
 -- m powers of β after n are r of them, where m + n is r + 255
 beta_turn : (m n r c : ℕ) → c < 256 → m + n ≡ r + 255 → times_beta m (times_beta n c) ≡ times_beta r c

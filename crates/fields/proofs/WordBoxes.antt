@@ -6,10 +6,10 @@ use Rattle.words.proofs.Xors.{xors}
 use Rattle.words.proofs.Words.{byte_0, byte_1, byte_2, byte_3, byte_below, word_bytes, word_below, words_same, xor_words, turn_8, turn_16, turn_24}
 use Rattle.fields.specs.Doubling.{doubled}
 use Rattle.fields.specs.Boxes.{sr, sq, undone}
-use Rattle.fields.specs.Mixing.{mixed_bytes, mixed, boxed, unmixed, share, s1, s2, s1_undone, s2_undone}
-use Rattle.fields.specs.Theorems.{Linear, Inverse}
+use Rattle.fields.specs.Mixing.{mixed_bytes, mixed, boxed, unmixed, share, word_box, word_box_undone, s1, s2, s1_undone, s2_undone}
+use Rattle.fields.specs.Theorems.{Linear, Inverse, Permutes}
 use Rattle.fields.proofs.Fields.{doubled_linear}
-use Rattle.fields.proofs.Undone.{Bijective, sr_bijective, sq_bijective, undone_below, undone_after, undone_before}
+use Rattle.fields.proofs.Undone.{sr_permutes, sq_permutes, undone_below}
 use Rattle.fields.proofs.Mixes.{mixed_below, mixing_returns}
 
 -- a box on bytes, and one that undoes it, byte by byte
@@ -46,24 +46,25 @@ mixed_boxed f d stays w =
     let e3 = byte_3 (f (byte_of w 0)) (f (byte_of w 1)) (f (byte_of w 2)) _ h3 in
     cc
 
-word_box_inverse : (box d : ℕ → ℕ) → Bijective box → Linear d → Inverse (λ w. mixed d (boxed box w)) (λ w. boxed (undone box) (unmixed d w))
-unfolding unmixed
-word_box_inverse box d b l = record {
-  f_word = λ w below. mixed_below d l (boxed box w);
-  g_word = λ w below. boxed_below (undone box) (undone_below box b) (mixed d (mixed d (mixed d w)));
-  g_f = λ w below.
-      ap (boxed (undone box)) (mixing_returns d l (boxed box w) (boxed_below box b.stays w)) ∙ boxed_back box (undone box) b.stays (undone_after box b) w below;
-  f_g = λ w below.
-      ap (mixed d) (boxed_back (undone box) box (undone_below box b) (undone_before box b) (mixed d (mixed d (mixed d w))) (mixed_below d l (mixed d (mixed d w)))) ∙ mixing_returns d l w below;
-}
+-- a word box and what undoes it, by any tap byte and any permutation of the bytes
+pub word_box_inverse : (c : ℕ) (box : ℕ → ℕ) → c < 256 → Permutes box → Inverse (word_box c box) (word_box_undone c box)
+unfolding word_box word_box_undone unmixed
+word_box_inverse c box hc p =
+    let d = doubled c in
+    let l = doubled_linear c hc in
+    record {
+      f_word = λ w below. mixed_below d l (boxed box w);
+      g_word = λ w below. boxed_below (undone box) (λ v hv. undone_below box v) (mixed d (mixed d (mixed d w)));
+      g_f = λ w below. ap (boxed (undone box)) (mixing_returns d l (boxed box w) (boxed_below box p.stays w)) ∙ boxed_back box (undone box) p.stays p.back w below;
+      f_g = λ w below.
+          ap (mixed d) (boxed_back (undone box) box (λ v hv. undone_below box v) p.forth (mixed d (mixed d (mixed d w))) (mixed_below d l (mixed d (mixed d w)))) ∙ mixing_returns d l w below;
+    }
 
 pub s1_inverse : Inverse s1 s1_undone
-unfolding s1 s1_undone
-s1_inverse = word_box_inverse sr (doubled 0x1B) sr_bijective (doubled_linear 0x1B (omega arith))
+s1_inverse = word_box_inverse 0x1B sr (omega arith) sr_permutes
 
 pub s2_inverse : Inverse s2 s2_undone
-unfolding s2 s2_undone
-s2_inverse = word_box_inverse sq (doubled 0x69) sq_bijective (doubled_linear 0x69 (omega arith))
+s2_inverse = word_box_inverse 0x69 sq (omega arith) sq_permutes
 
 module _ (d : ℕ → ℕ) (l : Linear d) where
   share_word : (b : ℕ) → share d b ≡ word (d b ⊕ b) b b (d b)

@@ -1,7 +1,7 @@
 use Rattle.std.proofs.Common.{◌*◌, ◌/◌, ◌%◌, ap, ◌∙◌, ap₂}
 use lib.Bits.{bit_xor, bit_or}
 use Rattle.fields.proofs.WordBoxes.{shares_join}
-use Rattle.fields.proofs.mixing.join_shares.Goals as goal
+use Rattle.fields.proofs.word_box.join_shares.Goals as goal
 
 pub returns : goal.returns
 returns c d p q s t l hp hq hs ht ea eb ec ee =
