@@ -1,5 +1,5 @@
 -- α and its inverse undo each other, since β to the power 255 is 1. Assumes nothing.
-use Rattle.std.proofs.Common.{◌≡◌, ℕ, zero, suc, ◌+◌, ◌*◌, ◌/◌, ◌%◌, ◌^◌, ◌<◌, eqb, sym, refl, ap, ◌∙◌, subst, suc-add, zero-add, arith, eqb→eq}
+use Rattle.std.proofs.Common.{◌≡◌, ℕ, zero, suc, ◌+◌, ◌*◌, ◌/◌, ◌%◌, ◌^◌, ◌<◌, sym, refl, ap, ◌∙◌, subst, suc-add, zero-add, arith}
 use lib.Bits.{xor_lt}
 use Rattle.words.specs.Words.{◌⊕◌, word, byte_of}
 use Rattle.words.proofs.Xors.{xors}

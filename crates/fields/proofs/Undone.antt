@@ -84,6 +84,9 @@ pub sq_permutes : Permutes sq
 unfolding doubled partial_product product sq_quick
 sq_permutes = permutes_by_places sq sq_quick sq_is (map sq_quick (range_with_len 0 256)) refl refl refl refl refl
 
+pub undone_is : (f : ℕ → ℕ) → Permutes f → (v u : ℕ) → u < 256 → f u ≡ v → undone f v ≡ u
+undone_is f p v u h e = ap (undone f) (sym e) ∙ p.back u h
+
 -- a table of 256 bytes follows the byte that a box takes to another, by the test that the box takes each entry to its place
 pub by_undoing : (f quick : ℕ → ℕ) → ((k : ℕ) → k < 256 → f k ≡ quick k) → Permutes f → (xs : List ℕ) → length xs ≡ 256
     → bytes_at (λ k. get_or xs k 0) ≡ true → agree 256 (λ k. quick (get_or xs k 0)) (λ k. k) ≡ true → Follows (undone f) xs
@@ -91,5 +94,5 @@ by_undoing f quick same p xs len low test = record {
   each = λ k d h.
       let h' = subst (λ n. k < n) len h in
       let byte = ltb-true (get_or xs k 0) 256 (all_at 256 (λ k. ltb (get_or xs k 0) 256) low k h') in
-      get_or_default xs k d 0 h ∙ sym (p.back (get_or xs k 0) byte) ∙ ap (undone f) (same (get_or xs k 0) byte ∙ agree_at 256 (λ k. quick (get_or xs k 0)) (λ k. k) test k h');
+      get_or_default xs k d 0 h ∙ sym (undone_is f p k (get_or xs k 0) byte (same (get_or xs k 0) byte ∙ agree_at 256 (λ k. quick (get_or xs k 0)) (λ k. k) test k h'));
 }

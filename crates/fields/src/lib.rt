@@ -2,16 +2,14 @@
 #![tactic(auto)]
 
 mod alpha;
+mod boxes;
 mod doubling;
 mod mixing;
-mod s1;
-mod s2;
 mod tables;
 mod word_box;
 
 pub use alpha::{div_alpha_entry, mul_alpha_entry, over_alpha, times_alpha};
+pub use boxes::{S1, S2};
 pub use doubling::double;
 pub use mixing::mix;
-pub use s1::S1;
-pub use s2::S2;
 pub use word_box::WordBox;

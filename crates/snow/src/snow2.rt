@@ -12,7 +12,7 @@ use crate::loading::{
 };
 use crate::refusals::FillFault;
 use crate::shifts::{feedback, first_sixteen, shift_in, shift_out};
-use fields::{s1, s1_inverse};
+use fields::{S1, WordBox};
 use generator::{Fault, Generator, OriginFault};
 
 // The words a0 to a15 of the register, and b1 and b2 of the finite state machine.
@@ -74,7 +74,7 @@ impl Snow2 {
         ensures { state_of self.new.words self.new.b1 self.new.b2 ≡ clocked (state_of self.old.words self.old.b1 self.old.b2) new }
     {
         let b1 = self.b2.wrapping_add(self.words[5]);
-        let b2 = s1(self.b1);
+        let b2 = S1::apply(self.b1);
         self.words = shift_in(self.words, new);
         self.b1 = b1;
         self.b2 = b2;
@@ -92,7 +92,7 @@ impl Snow2 {
     fn unclock(&mut self, fed: u32)
         ensures { state_of self.new.words self.new.b1 self.new.b2 ≡ unclocked (state_of self.old.words self.old.b1 self.old.b2) fed }
     {
-        let b1 = s1_inverse(self.b2);
+        let b1 = S1::undo(self.b2);
         let b2 = self.b1.wrapping_sub(self.words[4]);
         self.words = shift_out(self.words, fed);
         self.b1 = b1;
@@ -103,7 +103,7 @@ impl Snow2 {
     pub fn unfeed(&mut self)
         ensures { state_of self.new.words self.new.b1 self.new.b2 ≡ unfeed (state_of self.old.words self.old.b1 self.old.b2) }
     {
-        let b1 = s1_inverse(self.b2);
+        let b1 = S1::undo(self.b2);
         let b2 = self.b1.wrapping_sub(self.words[4]);
         let fed = self.words[14].wrapping_add(b1) ^ b2;
         self.unclock(fed);

@@ -9,7 +9,7 @@ ghost use Rattle.snow.specs.Snow3gParts.{state_fits};
 use crate::loading::{eight_words, expand_256, four_words, name_256, with_iv};
 use crate::refusals::FillFault;
 use crate::shifts::{feedback, first_sixteen, shift_in, shift_out};
-use fields::{s1, s1_inverse, s2, s2_inverse};
+use fields::{S1, S2, WordBox};
 use generator::{Fault, Generator, OriginFault};
 
 // The words s0 to s15 of the register, and R1, R2 and R3 of the finite state machine.
@@ -64,8 +64,8 @@ impl Snow3g {
         ensures { state_of self.new.words self.new.r1 self.new.r2 self.new.r3 ≡ clocked (state_of self.old.words self.old.r1 self.old.r2 self.old.r3) new }
     {
         let r1 = self.r2.wrapping_add(self.r3 ^ self.words[5]);
-        let r2 = s1(self.r1);
-        let r3 = s2(self.r2);
+        let r2 = S1::apply(self.r1);
+        let r3 = S2::apply(self.r2);
         self.words = shift_in(self.words, new);
         self.r1 = r1;
         self.r2 = r2;
@@ -84,8 +84,8 @@ impl Snow3g {
     fn unclock(&mut self, fed: u32)
         ensures { state_of self.new.words self.new.r1 self.new.r2 self.new.r3 ≡ unclocked (state_of self.old.words self.old.r1 self.old.r2 self.old.r3) fed }
     {
-        let r1 = s1_inverse(self.r2);
-        let r2 = s2_inverse(self.r3);
+        let r1 = S1::undo(self.r2);
+        let r2 = S2::undo(self.r3);
         let r3 = self.r1.wrapping_sub(r2) ^ self.words[4];
         self.words = shift_out(self.words, fed);
         self.r1 = r1;
@@ -96,8 +96,8 @@ impl Snow3g {
     fn unfeed(&mut self)
         ensures { state_of self.new.words self.new.r1 self.new.r2 self.new.r3 ≡ unfeed (state_of self.old.words self.old.r1 self.old.r2 self.old.r3) }
     {
-        let r1 = s1_inverse(self.r2);
-        let r2 = s2_inverse(self.r3);
+        let r1 = S1::undo(self.r2);
+        let r2 = S2::undo(self.r3);
         let fed = self.words[14].wrapping_add(r1) ^ r2;
         self.unclock(fed);
     }

@@ -7,4 +7,4 @@ use Rattle.snow.proofs.snow2.Snow2.unclock.Goals as goal
 pub returns : goal.returns
 returns c =
     let x = c.args.self.now in
-    ap₂ (λ ws b. state_of ws b (minus x.b1 (at x.words 4))) c.shift_out-self.ensures c.s1_inverse-b1.ensures ∙ sym (unclocked_parts x.words x.count x.b1 x.b2 c.args.fed)
+    ap₂ (λ ws b. state_of ws b (minus x.b1 (at x.words 4))) c.shift_out-self.ensures c.undo-b1.ensures ∙ sym (unclocked_parts x.words x.count x.b1 x.b2 c.args.fed)

@@ -9,4 +9,4 @@ pub returns : goal.returns
 unfolding unfeed
 returns c =
     let x = c.args.self.now in
-    c.unclock.ensures ∙ ap (unclocked (state_of x.words x.b1 x.b2)) (ap (λ b. plus (at x.words 14) b ⊕ minus x.b1 (at x.words 4)) c.s1_inverse-b1.ensures ∙ sym (fed_before x.words x.count x.b1 x.b2))
+    c.unclock.ensures ∙ ap (unclocked (state_of x.words x.b1 x.b2)) (ap (λ b. plus (at x.words 14) b ⊕ minus x.b1 (at x.words 4)) c.undo-b1.ensures ∙ sym (fed_before x.words x.count x.b1 x.b2))

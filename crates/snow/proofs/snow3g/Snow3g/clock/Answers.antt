@@ -9,5 +9,5 @@ pub returns : goal.returns
 returns c =
     let x = c.args.self.now in
     let r1 = plus x.r2 (x.r3 ⊕ at x.words 5) in
-    ap₂ (λ ws r. state_of ws r1 r c.s2-r3.result) c.shift_in-self.ensures c.s1-r2.ensures.value
-    ∙ ap (state_of (shifted x.words c.args.new) r1 _) c.s2-r3.ensures.value ∙ sym (clocked_parts x.words x.count x.r1 x.r2 x.r3 c.args.new)
+    ap₂ (λ ws r. state_of ws r1 r c.apply-r3.result) c.shift_in-self.ensures c.apply-r2.ensures.value
+    ∙ ap (state_of (shifted x.words c.args.new) r1 _) c.apply-r3.ensures.value ∙ sym (clocked_parts x.words x.count x.r1 x.r2 x.r3 c.args.new)

@@ -9,4 +9,4 @@ pub returns : goal.returns
 unfolding unfeed
 returns c =
     let x = c.args.self.now in
-    c.unclock.ensures ∙ ap (unclocked (state_of x.words x.r1 x.r2 x.r3)) (ap₂ (λ a b. plus (at x.words 14) a ⊕ b) c.s1_inverse-r1.ensures c.s2_inverse-r2.ensures ∙ sym (fed_before x.words x.count x.r1 x.r2 x.r3))
+    c.unclock.ensures ∙ ap (unclocked (state_of x.words x.r1 x.r2 x.r3)) (ap₂ (λ a b. plus (at x.words 14) a ⊕ b) c.undo-r1.ensures c.undo-r2.ensures ∙ sym (fed_before x.words x.count x.r1 x.r2 x.r3))

@@ -4,7 +4,7 @@ use Rattle.fields.specs.Boxes.{sq, undone}
 use Rattle.fields.proofs.Quick.{sq_quick, sq_is}
 use Rattle.fields.proofs.Undone.{sq_permutes, by_undoing}
 use Rattle.fields.proofs.WordBoxes.{s2_inverse}
-use Rattle.fields.proofs.s2.S2WordBox.unbox_byte.Goals as goal
+use Rattle.fields.proofs.boxes.S2WordBox.unbox_byte.Goals as goal
 
 pub returns : goal.returns
 unfolding doubled partial_product product sq_quick

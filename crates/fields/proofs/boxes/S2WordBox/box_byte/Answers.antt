@@ -3,7 +3,7 @@ use Rattle.fields.specs.Doubling.{doubled, partial_product, product}
 use Rattle.fields.specs.Boxes.{sq}
 use Rattle.fields.proofs.Entries.{by_test}
 use Rattle.fields.proofs.Quick.{sq_quick, sq_is}
-use Rattle.fields.proofs.s2.S2WordBox.box_byte.Goals as goal
+use Rattle.fields.proofs.boxes.S2WordBox.box_byte.Goals as goal
 
 pub returns : goal.returns
 unfolding doubled partial_product product sq_quick

@@ -5,7 +5,7 @@ use Rattle.fields.specs.Mixing.{mixed_bytes, share}
 use Rattle.fields.proofs.Entries.{by_test}
 use Rattle.fields.proofs.Quick.{sq_quick, sq_is}
 use Rattle.fields.proofs.Undone.{sq_permutes}
-use Rattle.fields.proofs.s2.S2WordBox.share.Goals as goal
+use Rattle.fields.proofs.boxes.S2WordBox.share.Goals as goal
 
 pub returns : goal.returns
 unfolding doubled partial_product product sq_quick mixed_bytes share

@@ -5,7 +5,7 @@ use Rattle.fields.specs.Mixing.{mixed_bytes, share}
 use Rattle.fields.proofs.Entries.{by_test}
 use Rattle.fields.proofs.Quick.{sr_quick, sr_is}
 use Rattle.fields.proofs.Undone.{sr_permutes}
-use Rattle.fields.proofs.s1.S1WordBox.share.Goals as goal
+use Rattle.fields.proofs.boxes.S1WordBox.share.Goals as goal
 
 pub returns : goal.returns
 unfolding doubled partial_product product rotated affine sr_quick mixed_bytes share
