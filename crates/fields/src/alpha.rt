@@ -96,12 +96,14 @@ pub fn times_alpha(word: u32) -> u32
     ensures value { result ≡ times_alpha word }
     ensures undone { AlphaInverse }
 {
-    (word << 8) ^ mul_alpha_entry((word >> 24) as u8)
+    let [top, _, _, _] = word.to_be_bytes();
+    (word << 8) ^ mul_alpha_entry(top)
 }
 
 // α⁻¹w.
 pub fn over_alpha(word: u32) -> u32
     ensures { result ≡ over_alpha word }
 {
-    (word >> 8) ^ div_alpha_entry((word & 0xFF) as u8)
+    let [_, _, _, low] = word.to_be_bytes();
+    (word >> 8) ^ div_alpha_entry(low)
 }
