@@ -21,30 +21,22 @@ module _ (d : ℕ → ℕ) (l : Linear d) where
 
   row_below : (a b x y : ℕ) → a < 256 → b < 256 → x < 256 → y < 256 → row a b x y < 256
   unfolding row
-  row_below a b x y ha hb hx hy =
-      join_below (d a ⊕ d b) (b ⊕ x ⊕ y) (join_below (d a) (d b) (l.stays a ha) (l.stays b hb)) (join_below (b ⊕ x) y (join_below b x hb hx) hy)
+  row_below a b x y ha hb hx hy = search (join_below, l.stays)
 
   row₂_below : (a c : ℕ) → a < 256 → c < 256 → row₂ a c < 256
   unfolding row₂
-  row₂_below a c ha hc =
-      join_below (d (d a) ⊕ a) (d (d c)) (join_below (d (d a)) a (l.stays (d a) (l.stays a ha)) ha) (l.stays (d c) (l.stays c hc))
+  row₂_below a c ha hc = search (join_below, l.stays)
 
   d_row : (a b x y : ℕ) → a < 256 → b < 256 → x < 256 → y < 256 → d (row a b x y) ≡ d (d a) ⊕ d (d b) ⊕ (d b ⊕ d x ⊕ d y)
   unfolding row
-  d_row a b x y ha hb hx hy =
-      l.joins (d a ⊕ d b) (b ⊕ x ⊕ y) (join_below (d a) (d b) (l.stays a ha) (l.stays b hb)) (join_below (b ⊕ x) y (join_below b x hb hx) hy)
-      ∙ ap₂ bit_xor (l.joins (d a) (d b) (l.stays a ha) (l.stays b hb)) (l.joins (b ⊕ x) y (join_below b x hb hx) hy ∙ ap (λ z. z ⊕ d y) (l.joins b x hb hx))
+  d_row a b x y ha hb hx hy = simp (l.joins, join_below, l.stays)
 
   dd_row₂ : (a c : ℕ) → a < 256 → c < 256 → d (d (row₂ a c)) ≡ d (d (d (d a))) ⊕ d (d a) ⊕ d (d (d (d c)))
   unfolding row₂
   dd_row₂ a c ha hc =
-      let a1 = l.stays a ha in
-      let a2 = l.stays (d a) a1 in
-      let c1 = l.stays c hc in
-      let c2 = l.stays (d c) c1 in
-      ap d (l.joins (d (d a) ⊕ a) (d (d c)) (join_below (d (d a)) a a2 ha) c2 ∙ ap (λ z. z ⊕ d (d (d c))) (l.joins (d (d a)) a a2 ha))
-      ∙ l.joins (d (d (d a)) ⊕ d a) (d (d (d c))) (join_below (d (d (d a))) (d a) (l.stays (d (d a)) a2) a1) (l.stays (d (d c)) c2)
-      ∙ ap (λ z. z ⊕ d (d (d (d c)))) (l.joins (d (d (d a))) (d a) (l.stays (d (d a)) a2) a1)
+      let a2 = l.stays (d a) (l.stays a ha) in
+      let c2 = l.stays (d c) (l.stays c hc) in
+      simp (l.joins, join_below, l.stays)
 
   mixed_rows : (a b c e : ℕ) → mixed_bytes d a b c e ≡ word (row a e b c) (row b a c e) (row c b e a) (row e c a b)
   unfolding mixed_bytes row
@@ -72,7 +64,7 @@ module _ (d : ℕ → ℕ) (l : Linear d) where
   -- the mixing of the word of four bytes
   mixed_word : (a b c e : ℕ) → a < 256 → b < 256 → c < 256 → e < 256 → mixed d (word a b c e) ≡ word (row a e b c) (row b a c e) (row c b e a) (row e c a b)
   unfolding mixed
-  mixed_word a b c e ha hb hc he = rw (byte_0 a b c e ha hb hc he, byte_1 a b c e hb hc he, byte_2 a b c e hc he, byte_3 a b c e he) (mixed_rows a b c e)
+  mixed_word a b c e ha hb hc he = simp (byte_0, byte_1, byte_2, byte_3) (mixed_rows a b c e)
 
   mixed_twice : (a b c e : ℕ) → a < 256 → b < 256 → c < 256 → e < 256 → mixed d (mixed d (word a b c e)) ≡ word (row₂ a c) (row₂ b e) (row₂ c a) (row₂ e b)
   mixed_twice a b c e ha hb hc he =

@@ -15,36 +15,16 @@ use Rattle.fields.proofs.Mixes.{mixed_below, mixing_returns}
 -- a box on bytes, and one that undoes it, byte by byte
 boxed_back : (f g : ℕ → ℕ) → ((a : ℕ) → a < 256 → f a < 256) → ((a : ℕ) → a < 256 → g (f a) ≡ a) → (w : ℕ) → w < 2 ^ 32 → boxed g (boxed f w) ≡ w
 unfolding boxed
-boxed_back f g stays back w below =
-    let h0 = stays (byte_of w 0) (byte_below w 0) in
-    let h1 = stays (byte_of w 1) (byte_below w 1) in
-    let h2 = stays (byte_of w 2) (byte_below w 2) in
-    let h3 = stays (byte_of w 3) (byte_below w 3) in
-    words_same
-    (ap g (byte_0 _ _ _ _ h0 h1 h2 h3) ∙ back (byte_of w 0) (byte_below w 0))
-    (ap g (byte_1 _ _ _ _ h1 h2 h3) ∙ back (byte_of w 1) (byte_below w 1))
-    (ap g (byte_2 _ _ _ _ h2 h3) ∙ back (byte_of w 2) (byte_below w 2))
-    (ap g (byte_3 _ _ _ _ h3) ∙ back (byte_of w 3) (byte_below w 3))
-    ∙ word_bytes w below
+boxed_back f g stays back w below = simp (byte_0, byte_1, byte_2, byte_3, back, stays, byte_below) (word_bytes w below)
 
 boxed_below : (f : ℕ → ℕ) → ((a : ℕ) → a < 256 → f a < 256) → (w : ℕ) → boxed f w < 2 ^ 32
 unfolding boxed
-boxed_below f stays w =
-    word_below (f (byte_of w 0)) (f (byte_of w 1)) (f (byte_of w 2)) (f (byte_of w 3)) (stays (byte_of w 0) (byte_below w 0)) (stays (byte_of w 1) (byte_below w 1)) (stays (byte_of w 2) (byte_below w 2)) (stays (byte_of w 3) (byte_below w 3))
+boxed_below f stays w = search (word_below, stays, byte_below)
 
 -- a word box, by the boxed bytes
 pub mixed_boxed : (f d : ℕ → ℕ) → ((a : ℕ) → a < 256 → f a < 256) → (w : ℕ) → mixed d (boxed f w) ≡ mixed_bytes d (f (byte_of w 0)) (f (byte_of w 1)) (f (byte_of w 2)) (f (byte_of w 3))
 unfolding mixed boxed
-mixed_boxed f d stays w =
-    let h0 = stays (byte_of w 0) (byte_below w 0) in
-    let h1 = stays (byte_of w 1) (byte_below w 1) in
-    let h2 = stays (byte_of w 2) (byte_below w 2) in
-    let h3 = stays (byte_of w 3) (byte_below w 3) in
-    let e0 = byte_0 _ _ _ _ h0 h1 h2 h3 in
-    let e1 = byte_1 (f (byte_of w 0)) _ _ _ h1 h2 h3 in
-    let e2 = byte_2 (f (byte_of w 0)) (f (byte_of w 1)) _ _ h2 h3 in
-    let e3 = byte_3 (f (byte_of w 0)) (f (byte_of w 1)) (f (byte_of w 2)) _ h3 in
-    cc
+mixed_boxed f d stays w = simp (byte_0, byte_1, byte_2, byte_3, stays, byte_below)
 
 -- a word box and what undoes it, by any tap byte and any permutation of the bytes
 pub word_box_inverse : (c : ℕ) (box : ℕ → ℕ) → c < 256 → Permutes box → Inverse (word_box c box) (word_box_undone c box)
