@@ -67,31 +67,15 @@ module _ (d : ℕ → ℕ) (l : Linear d) where
   mixed_word a b c e ha hb hc he = simp (byte_0, byte_1, byte_2, byte_3) (mixed_rows a b c e)
 
   mixed_twice : (a b c e : ℕ) → a < 256 → b < 256 → c < 256 → e < 256 → mixed d (mixed d (word a b c e)) ≡ word (row₂ a c) (row₂ b e) (row₂ c a) (row₂ e b)
-  mixed_twice a b c e ha hb hc he =
-      ap (mixed d) (mixed_word a b c e ha hb hc he)
-      ∙ mixed_word (row a e b c) (row b a c e) (row c b e a) (row e c a b)
-      (row_below a e b c ha he hb hc) (row_below b a c e hb ha hc he) (row_below c b e a hc hb he ha) (row_below e c a b he hc ha hb)
-      ∙ words_same (two_rows a b c e ha hb hc he) (two_rows b c e a hb hc he ha) (two_rows c e a b hc he ha hb) (two_rows e a b c he ha hb hc)
+  mixed_twice a b c e ha hb hc he = simp (mixed_word, two_rows, row_below)
 
   mixed_four : (a b c e : ℕ) → a < 256 → b < 256 → c < 256 → e < 256 → mixed d (mixed d (mixed d (mixed d (word a b c e)))) ≡ word a b c e
-  mixed_four a b c e ha hb hc he =
-      ap (λ w. mixed d (mixed d w)) (mixed_twice a b c e ha hb hc he)
-      ∙ mixed_twice (row₂ a c) (row₂ b e) (row₂ c a) (row₂ e b) (row₂_below a c ha hc) (row₂_below b e hb he) (row₂_below c a hc ha) (row₂_below e b he hb)
-      ∙ words_same (four_rows a c ha hc) (four_rows b e hb he) (four_rows c a hc ha) (four_rows e b he hb)
+  mixed_four a b c e ha hb hc he = simp (mixed_twice, four_rows, row₂_below)
 
   pub mixed_below : (w : ℕ) → mixed d w < 2 ^ 32
   unfolding mixed
-  mixed_below w =
-      let b0 = byte_below w 0 in
-      let b1 = byte_below w 1 in
-      let b2 = byte_below w 2 in
-      let b3 = byte_below w 3 in
-      subst (λ x. x < 2 ^ 32) (sym (mixed_rows (byte_of w 0) (byte_of w 1) (byte_of w 2) (byte_of w 3)))
-      (word_below _ _ _ _ (row_below _ _ _ _ b0 b3 b1 b2) (row_below _ _ _ _ b1 b0 b2 b3) (row_below _ _ _ _ b2 b1 b3 b0) (row_below _ _ _ _ b3 b2 b0 b1))
+  mixed_below w = simp mixed_rows (search (word_below, row_below, byte_below))
 
   pub mixing_returns : (w : ℕ) → w < 2 ^ 32 → mixed d (mixed d (mixed d (mixed d w))) ≡ w
   mixing_returns w below =
-      let whole = word_bytes w below in
-      ap (λ x. mixed d (mixed d (mixed d (mixed d x)))) (sym whole)
-      ∙ mixed_four (byte_of w 0) (byte_of w 1) (byte_of w 2) (byte_of w 3) (byte_below w 0) (byte_below w 1) (byte_below w 2) (byte_below w 3)
-      ∙ whole
+      subst (λ x. mixed d (mixed d (mixed d (mixed d x))) ≡ x) (word_bytes w below) (mixed_four (byte_of w 0) (byte_of w 1) (byte_of w 2) (byte_of w 3) (byte_below w 0) (byte_below w 1) (byte_below w 2) (byte_below w 3))
