@@ -1,11 +1,15 @@
 -- Mixing over any linear doubling, and what four mixings give. Assumes nothing.
-use Rattle.std.proofs.Common.{◌≡◌, ℕ, ◌^◌, ◌<◌, sym, refl, ap, ◌∙◌, subst, ap₂}
+use Rattle.std.proofs.Common.{◌≡◌, ℕ, ◌^◌, ◌<◌, refl, ◌∙◌, subst, ap₂}
 use lib.Bits.{bit_xor, xor_lt}
 use Rattle.words.specs.Words.{◌⊕◌, word, byte_of}
 use Rattle.words.proofs.Xors.{xors}
-use Rattle.words.proofs.Words.{byte_0, byte_1, byte_2, byte_3, byte_below, word_bytes, word_below, words_same}
+use Rattle.words.proofs.Words.{byte_0, byte_1, byte_2, byte_3, byte_below, word_bytes, word_below}
 use Rattle.fields.specs.Mixing.{mixed_bytes, mixed}
 use Rattle.fields.specs.Theorems.{Linear}
+
+-- a join of bytes is a byte
+pub join_below : (a b : ℕ) → a < 256 → b < 256 → a ⊕ b < 256
+join_below a b ha hb = xor_lt 8 a b ha hb
 
 module _ (d : ℕ → ℕ) (l : Linear d) where
   -- a byte of a mixed word: over bytes a and b that are doubled, and bytes that are not
@@ -15,9 +19,6 @@ module _ (d : ℕ → ℕ) (l : Linear d) where
   -- a byte of a word that is mixed twice
   row₂ : ℕ → ℕ → ℕ
   row₂ a c = d (d a) ⊕ a ⊕ d (d c)
-
-  join_below : (a b : ℕ) → a < 256 → b < 256 → a ⊕ b < 256
-  join_below a b ha hb = xor_lt 8 a b ha hb
 
   row_below : (a b x y : ℕ) → a < 256 → b < 256 → x < 256 → y < 256 → row a b x y < 256
   unfolding row

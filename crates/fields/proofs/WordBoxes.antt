@@ -1,16 +1,16 @@
 -- The word boxes and what undoes them, and their four shares. Assumes nothing.
-use Rattle.std.proofs.Common.{◌≡◌, ℕ, ◌*◌, ◌/◌, ◌%◌, ◌^◌, ◌<◌, refl, ap, ◌∙◌, ap₂, arith}
-use lib.Bits.{bit_xor, bit_or, xor_lt, xor_self}
+use Rattle.std.proofs.Common.{◌≡◌, ℕ, ◌*◌, ◌/◌, ◌%◌, ◌^◌, ◌<◌, refl, ap, ◌∙◌, arith}
+use lib.Bits.{bit_or, xor_self}
 use Rattle.words.specs.Words.{◌⊕◌, word, byte_of}
 use Rattle.words.proofs.Xors.{xors}
-use Rattle.words.proofs.Words.{byte_0, byte_1, byte_2, byte_3, byte_below, word_bytes, word_below, words_same, xor_words, turn_8, turn_16, turn_24}
+use Rattle.words.proofs.Words.{byte_0, byte_1, byte_2, byte_3, byte_below, word_bytes, word_below, xor_words, turn_8, turn_16, turn_24}
 use Rattle.fields.specs.Doubling.{doubled}
 use Rattle.fields.specs.Boxes.{sr, sq, undone}
 use Rattle.fields.specs.Mixing.{mixed_bytes, mixed, boxed, unmixed, share, word_box, word_box_undone, s1, s2, s1_undone, s2_undone}
 use Rattle.fields.specs.Theorems.{Linear, Inverse, Permutes}
 use Rattle.fields.proofs.Fields.{doubled_linear}
 use Rattle.fields.proofs.Undone.{sr_permutes, sq_permutes, undone_below}
-use Rattle.fields.proofs.Mixes.{mixed_below, mixing_returns}
+use Rattle.fields.proofs.Mixes.{join_below, mixed_below, mixing_returns}
 
 -- a box on bytes, and one that undoes it, byte by byte
 boxed_back : (f g : ℕ → ℕ) → ((a : ℕ) → a < 256 → f a < 256) → ((a : ℕ) → a < 256 → g (f a) ≡ a) → (w : ℕ) → w < 2 ^ 32 → boxed g (boxed f w) ≡ w
@@ -63,24 +63,8 @@ module _ (d : ℕ → ℕ) (l : Linear d) where
       ≡ mixed_bytes d a b c e
   unfolding mixed_bytes
   shares_join a b c e ha hb hc he =
-      let da = l.stays a ha in
-      let db = l.stays b hb in
-      let dc = l.stays c hc in
-      let de = l.stays e he in
-      let xa = xor_lt 8 (d a) a da ha in
-      let xb = xor_lt 8 (d b) b db hb in
-      let xc = xor_lt 8 (d c) c dc hc in
-      let xe = xor_lt 8 (d e) e de he in
-      ap₂ bit_xor
-      (ap₂ bit_xor
-      (ap₂ bit_xor (share_word e) (ap (λ w. bit_or (w * 256 % 4294967296) (w / 16777216)) (share_word c) ∙ turn_8 (d c ⊕ c) c c (d c) xc hc hc dc)
-      ∙ xor_words (d e ⊕ e) e e (d e) c c (d c) (d c ⊕ c) he he de hc dc xc)
-      (ap (λ w. bit_or (w * 65536 % 4294967296) (w / 65536)) (share_word b) ∙ turn_16 (d b ⊕ b) b b (d b) xb hb hb db)
-      ∙ xor_words ((d e ⊕ e) ⊕ c) (e ⊕ c) (e ⊕ d c) (d e ⊕ (d c ⊕ c)) b (d b) (d b ⊕ b) b (xor_lt 8 e c he hc) (xor_lt 8 e (d c) he dc) (xor_lt 8 (d e) (d c ⊕ c) de xc) db xb hb)
-      (ap (λ w. bit_or (w * 16777216 % 4294967296) (w / 256)) (share_word a) ∙ turn_24 (d a ⊕ a) a a (d a) xa ha ha da)
-      ∙ xor_words ((d e ⊕ e) ⊕ c ⊕ b) (e ⊕ c ⊕ d b) (e ⊕ d c ⊕ (d b ⊕ b)) (d e ⊕ (d c ⊕ c) ⊕ b) (d a) (d a ⊕ a) a a
-      (xor_lt 8 (e ⊕ c) (d b) (xor_lt 8 e c he hc) db) (xor_lt 8 (e ⊕ d c) (d b ⊕ b) (xor_lt 8 e (d c) he dc) xb) (xor_lt 8 (d e ⊕ (d c ⊕ c)) b (xor_lt 8 (d e) (d c ⊕ c) de xc) hb) xa ha ha
-      ∙ sums a b c e (d a) (d b) (d c) (d e)
+      let xc = join_below (d c) c (l.stays c hc) hc in
+      simp (share_word, turn_8, turn_16, turn_24, xor_words, join_below, l.stays) (sums a b c e (d a) (d b) (d c) (d e))
     where
       sums :
           (a b c e p q r s : ℕ)

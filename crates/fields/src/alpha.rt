@@ -100,7 +100,7 @@ pub fn times_alpha(word: u32) -> u32
     (word << 8) ^ mul_alpha_entry(top)
 }
 
-// α⁻¹w.
+// α⁻¹w. Kept beside times_alpha: shift, byte and table all differ, so that one function of both would be no plainer.
 pub fn over_alpha(word: u32) -> u32
     ensures { result ≡ over_alpha word }
 {
