@@ -92,6 +92,7 @@ pub fn div_alpha_entry(byte: u8) -> u32
 }
 
 // αw. Multiplication by α and by its inverse undo each other.
+#[tactic(auto, using(crate::proofs::Alphas::alpha_inverse), unfolding(crate::specs::Alpha::times_alpha))]
 pub fn times_alpha(word: u32) -> u32
     ensures value { result ≡ times_alpha word }
     ensures undone { AlphaInverse }
@@ -101,6 +102,7 @@ pub fn times_alpha(word: u32) -> u32
 }
 
 // α⁻¹w. Kept beside times_alpha: shift, byte and table all differ, so that one function of both would be no plainer.
+#[tactic(auto, using(words::proofs::Words::byte_low), unfolding(crate::specs::Alpha::over_alpha))]
 pub fn over_alpha(word: u32) -> u32
     ensures { result ≡ over_alpha word }
 {

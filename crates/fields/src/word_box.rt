@@ -55,6 +55,7 @@ pub trait WordBox {
 }
 
 // The shares of four bytes in a word box, each turned to its byte's place.
+#[tactic(auto, using(crate::proofs::WordBoxes::shares_join))]
 fn join_shares(a: u32, b: u32, c: u32, e: u32) -> u32
     ensures { (d : ℕ → ℕ) (p q s t : ℕ) → Linear d → p < 256 → q < 256 → s < 256 → t < 256 → a ≡ share d p → b ≡ share d q → c ≡ share d s → e ≡ share d t → result ≡ mixed_bytes d p q s t }
 {
