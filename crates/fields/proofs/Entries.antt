@@ -1,5 +1,5 @@
 -- Rules shown by one computed test: of every number below a bound, and of a table at all of its entries. Assumes nothing.
-use Rattle.std.proofs.Common.{◌≡◌, ℕ, ◌<◌, Bool, true, false, eqb, List, length, get_or, sym, refl, ap, ◌∙◌, subst, zero-add, arith, eqb-true}
+use Rattle.std.proofs.Common.{◌≡◌, ℕ, ◌<◌, Bool, true, false, eqb, ltb, List, length, get_or, sym, refl, ap, ◌∙◌, subst, zero-add, arith, eqb-true, ltb-true}
 use Rattle.std.specs.List.{list_all, range_with_len}
 use Rattle.std.proofs.lemmas.List.{get_or_default}
 use Rattle.std.proofs.lemmas.List.Folds.{list_all_at}
@@ -23,6 +23,13 @@ agree n f g = all_below n (λ k. eqb (f k) (g k))
 
 pub agree_at : (n : ℕ) (f g : ℕ → ℕ) → agree n f g ≡ true → (k : ℕ) → k < n → f k ≡ g k
 agree_at n f g test k h = eqb-true (f k) (g k) (all_at n (λ k. eqb (f k) (g k)) test k h)
+
+-- f takes every byte to a byte
+abbrev pub to_bytes : (ℕ → ℕ) → Bool
+to_bytes f = all_below 256 (λ k. ltb (f k) 256)
+
+pub byte_at : (f : ℕ → ℕ) → to_bytes f ≡ true → (k : ℕ) → k < 256 → f k < 256
+byte_at f test k h = ltb-true (f k) 256 (all_at 256 (λ k. ltb (f k) 256) test k h)
 
 -- a table of 256 entries follows a rule f, by the test that each entry is what a quicker rule has at its place
 pub by_test : (f quick : ℕ → ℕ) → ((k : ℕ) → k < 256 → f k ≡ quick k) → (xs : List ℕ) → length xs ≡ 256 → agree 256 (λ k. get_or xs k 0) quick ≡ true → Follows f xs

@@ -1,5 +1,5 @@
 -- SR and SQ permute the bytes, and tables of the byte that a box takes to another. Assumes nothing.
-use Rattle.std.proofs.Common.{◌≡◌, ℕ, zero, suc, ◌<◌, ◌≤◌, ◌==◌, Bool, true, false, eqb, ltb, List, length, get_or, map, sym, refl, ap, ◌∙◌, subst, ⊎_elim, not-suc-le-zero, zero-add, arith, eq-eqb, ne_eqb, ltb-true}
+use Rattle.std.proofs.Common.{◌≡◌, ℕ, zero, suc, ◌<◌, ◌≤◌, ◌==◌, true, false, eqb, List, length, get_or, map, sym, refl, ap, ◌∙◌, subst, ⊎_elim, not-suc-le-zero, zero-add, arith, eq-eqb, ne_eqb}
 use Rattle.std.specs.List.{position_or_len, range_with_len}
 use Rattle.std.proofs.lemmas.List.{get_or_default}
 use Rattle.std.proofs.lemmas.List.FromFn.{get_or-map-range_with_len}
@@ -8,7 +8,7 @@ use Rattle.fields.specs.Doubling.{doubled, partial_product, product}
 use Rattle.fields.specs.Boxes.{rotated, affine, sr, sq, search_below, undone}
 use Rattle.fields.specs.Tables.{Follows}
 use Rattle.fields.specs.Theorems.{Permutes}
-use Rattle.fields.proofs.Entries.{all_below, all_at, agree, agree_at}
+use Rattle.fields.proofs.Entries.{agree, agree_at, to_bytes, byte_at}
 use Rattle.fields.proofs.Quick.{sr_quick, sr_is, sq_quick, sq_is}
 
 -- a search finds the one number below n that f takes to v
@@ -39,60 +39,53 @@ pub undone_below : (f : ℕ → ℕ) (v : ℕ) → undone f v < 256
 unfolding undone
 undone_below f v = search_low 256 f v 256 (omega arith) (omega arith)
 
--- f permutes the bytes where g undoes it on them
-permutes_by : (f g : ℕ → ℕ) → ((a : ℕ) → a < 256 → f a < 256) → ((v : ℕ) → v < 256 → g v < 256) → ((a : ℕ) → a < 256 → g (f a) ≡ a) → ((v : ℕ) → v < 256 → f (g v) ≡ v) → Permutes f
-unfolding undone
-permutes_by f g f_below g_below g_f f_g = record {
-  stays = f_below;
-  back = λ a ha. undone_is (f a) (f_below a ha) ∙ g_f a ha;
-  forth = λ v hv. ap f (undone_is v hv) ∙ f_g v hv;
-}
-  where
-    undone_is : (v : ℕ) → v < 256 → undone f v ≡ g v
-    undone_is v hv = search_finds 256 f v (g v) (g_below v hv) (f_g v hv) (λ w hw e. sym (g_f w hw) ∙ ap g e)
-
 -- the place of v in a list
 abbrev place : List ℕ → ℕ → ℕ
 place l v = position_or_len (λ x. eqb x v) l
 
-abbrev bytes_at : (ℕ → ℕ) → Bool
-bytes_at f = all_below 256 (λ k. ltb (f k) 256)
+-- a box permutes the bytes, by tests on the list of what it takes them to: its entries and the places of the bytes in it are bytes, and undo each other
+permutes : (f quick : ℕ → ℕ) → ((k : ℕ) → k < 256 → f k ≡ quick k) → (l : List ℕ) → l ≡ map quick (range_with_len 0 256) → to_bytes (λ k. get_or l k 0) ≡ true → to_bytes (place l) ≡ true
+    → agree 256 (λ k. place l (get_or l k 0)) (λ k. k) ≡ true → agree 256 (λ v. get_or l (place l v) 0) (λ v. v) ≡ true → Permutes f
+unfolding undone
+permutes f quick same l is entries places back forth = record {
+  stays = stays;
+  back = λ a ha. undone_is (f a) (stays a ha) ∙ placed a ha;
+  forth = λ v hv. ap f (undone_is v hv) ∙ found v hv;
+}
+  where
+    reads : (k : ℕ) → k < 256 → f k ≡ get_or l k 0
+    reads k h = same k h ∙ sym (ap (λ xs. get_or xs k 0) is ∙ get_or-map-range_with_len quick 0 256 k k 0 h (zero-add k))
 
-module _ (f quick : ℕ → ℕ) (same : (k : ℕ) → k < 256 → f k ≡ quick k) where
-  -- the tests on a list of the box's bytes: its entries and the places of the bytes in it are bytes, and undo each other
-  permutes_by_places : (l : List ℕ) → l ≡ map quick (range_with_len 0 256) → bytes_at (λ k. get_or l k 0) ≡ true → bytes_at (place l) ≡ true
-      → agree 256 (λ k. place l (get_or l k 0)) (λ k. k) ≡ true → agree 256 (λ v. get_or l (place l v) 0) (λ v. v) ≡ true → Permutes f
-  permutes_by_places l is low places back forth =
-      permutes_by f (place l) (λ a ha. subst (λ x. x < 256) (sym (reads a ha)) (byte a ha)) byte_place
-      (λ a ha. ap (place l) (reads a ha) ∙ agree_at 256 (λ k. place l (get_or l k 0)) (λ k. k) back a ha)
-      (λ v hv. reads (place l v) (byte_place v hv) ∙ agree_at 256 (λ v. get_or l (place l v) 0) (λ v. v) forth v hv)
-    where
-      reads : (k : ℕ) → k < 256 → f k ≡ get_or l k 0
-      reads k h = same k h ∙ sym (ap (λ xs. get_or xs k 0) is ∙ get_or-map-range_with_len quick 0 256 k k 0 h (zero-add k))
+    stays : (a : ℕ) → a < 256 → f a < 256
+    stays a ha = subst (λ x. x < 256) (sym (reads a ha)) (byte_at (λ k. get_or l k 0) entries a ha)
 
-      byte : (k : ℕ) → k < 256 → get_or l k 0 < 256
-      byte k h = ltb-true (get_or l k 0) 256 (all_at 256 (λ k. ltb (get_or l k 0) 256) low k h)
+    placed : (a : ℕ) → a < 256 → place l (f a) ≡ a
+    placed a ha = ap (place l) (reads a ha) ∙ agree_at 256 (λ k. place l (get_or l k 0)) (λ k. k) back a ha
 
-      byte_place : (v : ℕ) → v < 256 → place l v < 256
-      byte_place v h = ltb-true (place l v) 256 (all_at 256 (λ v. ltb (place l v) 256) places v h)
+    found : (v : ℕ) → v < 256 → f (place l v) ≡ v
+    found v hv = reads (place l v) (byte_at (place l) places v hv) ∙ agree_at 256 (λ v. get_or l (place l v) 0) (λ v. v) forth v hv
+
+    undone_is : (v : ℕ) → v < 256 → undone f v ≡ place l v
+    undone_is v hv = search_finds 256 f v (place l v) (byte_at (place l) places v hv) (found v hv) (λ w hw e. sym (placed w hw) ∙ ap (place l) e)
 
 pub sr_permutes : Permutes sr
 unfolding doubled partial_product product rotated affine sr_quick
-sr_permutes = permutes_by_places sr sr_quick sr_is (map sr_quick (range_with_len 0 256)) refl refl refl refl refl
+sr_permutes = permutes sr sr_quick sr_is (map sr_quick (range_with_len 0 256)) refl refl refl refl refl
 
 pub sq_permutes : Permutes sq
 unfolding doubled partial_product product sq_quick
-sq_permutes = permutes_by_places sq sq_quick sq_is (map sq_quick (range_with_len 0 256)) refl refl refl refl refl
+sq_permutes = permutes sq sq_quick sq_is (map sq_quick (range_with_len 0 256)) refl refl refl refl refl
 
+-- the byte that a box takes to another
 pub undone_is : (f : ℕ → ℕ) → Permutes f → (v u : ℕ) → u < 256 → f u ≡ v → undone f v ≡ u
 undone_is f p v u h e = ap (undone f) (sym e) ∙ p.back u h
 
 -- a table of 256 bytes follows the byte that a box takes to another, by the test that the box takes each entry to its place
 pub by_undoing : (f quick : ℕ → ℕ) → ((k : ℕ) → k < 256 → f k ≡ quick k) → Permutes f → (xs : List ℕ) → length xs ≡ 256
-    → bytes_at (λ k. get_or xs k 0) ≡ true → agree 256 (λ k. quick (get_or xs k 0)) (λ k. k) ≡ true → Follows (undone f) xs
+    → to_bytes (λ k. get_or xs k 0) ≡ true → agree 256 (λ k. quick (get_or xs k 0)) (λ k. k) ≡ true → Follows (undone f) xs
 by_undoing f quick same p xs len low test = record {
   each = λ k d h.
       let h' = subst (λ n. k < n) len h in
-      let byte = ltb-true (get_or xs k 0) 256 (all_at 256 (λ k. ltb (get_or xs k 0) 256) low k h') in
+      let byte = byte_at (λ k. get_or xs k 0) low k h' in
       get_or_default xs k d 0 h ∙ sym (undone_is f p k (get_or xs k 0) byte (same (get_or xs k 0) byte ∙ agree_at 256 (λ k. quick (get_or xs k 0)) (λ k. k) test k h'));
 }
