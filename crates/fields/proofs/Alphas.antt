@@ -1,5 +1,5 @@
 -- α and its inverse undo each other, since β to the power 255 is 1. Assumes nothing.
-use Rattle.std.proofs.Common.{◌≡◌, ℕ, zero, suc, ◌+◌, ◌*◌, ◌/◌, ◌%◌, ◌^◌, ◌<◌, eqb, sym, refl, ap, ◌∙◌, subst, suc-add, zero-add, arith, eqb→eq}
+use Rattle.std.proofs.Common.{◌≡◌, ℕ, zero, suc, ◌+◌, ◌*◌, ◌/◌, ◌%◌, ◌^◌, ◌<◌, sym, refl, ap, ◌∙◌, subst, suc-add, zero-add, arith}
 use lib.Bits.{xor_lt}
 use Rattle.words.specs.Words.{◌⊕◌, word, byte_of}
 use Rattle.words.proofs.Xors.{xors}
@@ -7,7 +7,7 @@ use Rattle.words.proofs.Words.{byte_0, byte_3, byte_below, word_bytes, word_belo
 use Rattle.fields.specs.Doubling.{doubled, doublings}
 use Rattle.fields.specs.Alpha.{times_beta, mul_alpha, div_alpha, times_alpha, over_alpha}
 use Rattle.fields.specs.Theorems.{Linear, Inverse}
-use Rattle.fields.proofs.Entries.{all_at}
+use Rattle.fields.proofs.Entries.{agree_at}
 use Rattle.fields.proofs.Fields.{doubled_linear, composed, same_by_bits}
 
 beta_linear : (n : ℕ) → Linear (times_beta n)
@@ -28,7 +28,7 @@ beta_255 : (c : ℕ) → c < 256 → times_beta 255 c ≡ c
 unfolding times_beta doublings doubled
 beta_255 c h =
     same_by_bits (times_beta 255) (λ a. a) (beta_linear 255) (beta_linear 0)
-    (λ k hk. eqb→eq (times_beta 255 (2 ^ k)) (2 ^ k) (all_at 8 (λ k. eqb (times_beta 255 (2 ^ k)) (2 ^ k)) tt k hk)) c h
+    (agree_at 8 (λ k. times_beta 255 (2 ^ k)) (λ k. 2 ^ k) refl) c h
 
 -- m powers of β after n are r of them, where m + n is r + 255
 beta_turn : (m n r c : ℕ) → c < 256 → m + n ≡ r + 255 → times_beta m (times_beta n c) ≡ times_beta r c
@@ -39,16 +39,15 @@ times_word : (a b c e : ℕ) → a < 256 → b < 256 → c < 256 → e < 256
 unfolding times_alpha mul_alpha
 times_word a b c e ha hb hc he =
     let shifted : word a b c e * 256 % 4294967296 ≡ word b c e 0 = omega arith in
-    rw (shifted, byte_0 a b c e ha hb hc he)
-    (xor_words b c e 0 (times_beta 23 a) (times_beta 245 a) (times_beta 48 a) (times_beta 239 a) hc he (omega arith) (beta_below 245 a ha) (beta_below 48 a ha) (beta_below 239 a ha))
+    let none : 0 < 256 = omega arith in
+    simp (shifted, byte_0, xor_words, beta_below)
 
 over_word : (a b c e : ℕ) → a < 256 → b < 256 → c < 256 → e < 256
     → over_alpha (word a b c e) ≡ word (times_beta 16 e) (a ⊕ times_beta 39 e) (b ⊕ times_beta 6 e) (c ⊕ times_beta 64 e)
 unfolding over_alpha div_alpha
 over_word a b c e ha hb hc he =
     let shifted : word a b c e / 256 ≡ word 0 a b c = omega arith in
-    rw (shifted, byte_3 a b c e he)
-    (xor_words 0 a b c (times_beta 16 e) (times_beta 39 e) (times_beta 6 e) (times_beta 64 e) ha hb hc (beta_below 39 e he) (beta_below 6 e he) (beta_below 64 e he))
+    simp (shifted, byte_3, xor_words, beta_below)
 
 -- joined twice with one byte
 again : (x m n : ℕ) → n ≡ m → (x ⊕ m) ⊕ n ≡ x
@@ -62,20 +61,18 @@ join_beta n x a hx ha = xor_lt 8 x (times_beta n a) hx (beta_below n a ha)
 
 over_times : (a b c e : ℕ) → a < 256 → b < 256 → c < 256 → e < 256 → over_alpha (times_alpha (word a b c e)) ≡ word a b c e
 over_times a b c e ha hb hc he =
-    ap over_alpha (times_word a b c e ha hb hc he)
-    ∙ over_word (b ⊕ times_beta 23 a) (c ⊕ times_beta 245 a) (e ⊕ times_beta 48 a) (times_beta 239 a) (join_beta 23 b a hb ha) (join_beta 245 c a hc ha) (join_beta 48 e a he ha) (beta_below 239 a ha)
-    ∙ words_same (beta_turn 16 239 0 a ha refl ∙ none a) (again b (times_beta 23 a) (times_beta 39 (times_beta 239 a)) (beta_turn 39 239 23 a ha refl))
-    (again c (times_beta 245 a) (times_beta 6 (times_beta 239 a)) (beta_add 6 239 a)) (again e (times_beta 48 a) (times_beta 64 (times_beta 239 a)) (beta_turn 64 239 48 a ha refl))
+    simp (times_word, over_word, join_beta, beta_below)
+    (words_same (beta_turn 16 239 0 a ha refl ∙ none a) (again b (times_beta 23 a) (times_beta 39 (times_beta 239 a)) (beta_turn 39 239 23 a ha refl))
+    (again c (times_beta 245 a) (times_beta 6 (times_beta 239 a)) (beta_add 6 239 a)) (again e (times_beta 48 a) (times_beta 64 (times_beta 239 a)) (beta_turn 64 239 48 a ha refl)))
   where
     none : (a : ℕ) → times_beta 0 a ≡ a
     none a = unfold times_beta doublings in refl
 
 times_over : (a b c e : ℕ) → a < 256 → b < 256 → c < 256 → e < 256 → times_alpha (over_alpha (word a b c e)) ≡ word a b c e
 times_over a b c e ha hb hc he =
-    ap times_alpha (over_word a b c e ha hb hc he)
-    ∙ times_word (times_beta 16 e) (a ⊕ times_beta 39 e) (b ⊕ times_beta 6 e) (c ⊕ times_beta 64 e) (beta_below 16 e he) (join_beta 39 a e ha he) (join_beta 6 b e hb he) (join_beta 64 c e hc he)
-    ∙ words_same (again a (times_beta 39 e) (times_beta 23 (times_beta 16 e)) (beta_add 23 16 e)) (again b (times_beta 6 e) (times_beta 245 (times_beta 16 e)) (beta_turn 245 16 6 e he refl))
-    (again c (times_beta 64 e) (times_beta 48 (times_beta 16 e)) (beta_add 48 16 e)) (beta_add 239 16 e ∙ beta_255 e he)
+    simp (over_word, times_word, join_beta, beta_below)
+    (words_same (again a (times_beta 39 e) (times_beta 23 (times_beta 16 e)) (beta_add 23 16 e)) (again b (times_beta 6 e) (times_beta 245 (times_beta 16 e)) (beta_turn 245 16 6 e he refl))
+    (again c (times_beta 64 e) (times_beta 48 (times_beta 16 e)) (beta_add 48 16 e)) (beta_add 239 16 e ∙ beta_255 e he))
 
 -- what holds of every word of four bytes holds of every word
 by_bytes : (P : ℕ → Type 0) → ((a b c e : ℕ) → a < 256 → b < 256 → c < 256 → e < 256 → P (word a b c e)) → (w : ℕ) → w < 2 ^ 32 → P w
@@ -84,8 +81,8 @@ by_bytes P all w below =
 
 pub alpha_inverse : Inverse times_alpha over_alpha
 alpha_inverse = record {
-  f_word = by_bytes (λ w. times_alpha w < 2 ^ 32) (λ a b c e ha hb hc he. subst (λ x. x < 2 ^ 32) (sym (times_word a b c e ha hb hc he)) (word_below _ _ _ _ (join_beta 23 b a hb ha) (join_beta 245 c a hc ha) (join_beta 48 e a he ha) (beta_below 239 a ha)));
-  g_word = by_bytes (λ w. over_alpha w < 2 ^ 32) (λ a b c e ha hb hc he. subst (λ x. x < 2 ^ 32) (sym (over_word a b c e ha hb hc he)) (word_below _ _ _ _ (beta_below 16 e he) (join_beta 39 a e ha he) (join_beta 6 b e hb he) (join_beta 64 c e hc he)));
+  f_word = by_bytes (λ w. times_alpha w < 2 ^ 32) (λ a b c e ha hb hc he. simp times_word (search (word_below, join_beta, beta_below)));
+  g_word = by_bytes (λ w. over_alpha w < 2 ^ 32) (λ a b c e ha hb hc he. simp over_word (search (word_below, join_beta, beta_below)));
   g_f = by_bytes (λ w. over_alpha (times_alpha w) ≡ w) over_times;
   f_g = by_bytes (λ w. times_alpha (over_alpha w) ≡ w) times_over;
 }

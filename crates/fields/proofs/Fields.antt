@@ -1,5 +1,5 @@
 -- Doubling is linear, and products in a byte field are linear on both sides. Assumes nothing.
-use Rattle.std.proofs.Common.{◌≡◌, ℕ, zero, suc, ◌+◌, ◌-◌, ◌*◌, ◌/◌, ◌%◌, ◌^◌, ◌<◌, ◌≤◌, Bool, true, false, cond, T, eqb, ltb, ◌⊎◌, sym, refl, ap, ◌∙◌, ap₂, inl, inr, ⊎_elim, add-zero, add-suc, one-mul, pow-suc, arith, eqb→eq, le-ltb, lt-ltb}
+use Rattle.std.proofs.Common.{◌≡◌, ℕ, zero, suc, ◌+◌, ◌-◌, ◌*◌, ◌/◌, ◌%◌, ◌^◌, ◌<◌, ◌≤◌, Bool, true, false, cond, eqb, ltb, ◌⊎◌, sym, refl, ap, ◌∙◌, ap₂, inl, inr, ⊎_elim, add-zero, add-suc, one-mul, pow-suc, arith, le-ltb, lt-ltb}
 use lib.Bits.{bit_xor, xor_block, xor_mod, xor_shr, xor_lt, xor_zero_r, xor_self, xor_shifted}
 use Rattle.std.proofs.lemmas.Nat.{pow_below}
 use Rattle.std.proofs.lemmas.Bool.{cases_lt}
@@ -7,7 +7,7 @@ use Rattle.words.specs.Words.{◌⊕◌}
 use Rattle.words.proofs.Xors.{xor_medial}
 use Rattle.fields.specs.Doubling.{doubled, doublings, partial_product, product, power}
 use Rattle.fields.specs.Theorems.{Linear}
-use Rattle.fields.proofs.Entries.{all_below, all_at}
+use Rattle.fields.proofs.Entries.{all_below, all_at, agree, agree_at}
 
 -- a bit is 0 or 1
 bit : (n : ℕ) → n < 2 → (n ≡ 0) ⊎ (n ≡ 1)
@@ -142,26 +142,23 @@ composed f g lf lg = record {
 
 -- the test that doubling the right factor doubles the product, over the bytes of one bit
 abbrev pub bits_double : ℕ → Bool
-bits_double c = all_below 8 (λ i. all_below 8 (λ j. eqb (product c (2 ^ j) (doubled c (2 ^ i))) (doubled c (product c (2 ^ j) (2 ^ i)))))
+bits_double c = all_below 8 (λ i. agree 8 (λ j. product c (2 ^ j) (doubled c (2 ^ i))) (λ j. doubled c (product c (2 ^ j) (2 ^ i))))
 
-module _ (c : ℕ) (hc : c < 256) (test : T (bits_double c)) where
+module _ (c : ℕ) (hc : c < 256) (test : bits_double c ≡ true) where
   product_doubled : (a b : ℕ) → a < 256 → b < 256 → product c a (doubled c b) ≡ doubled c (product c a b)
   product_doubled a b ha hb =
       same_by_bits (λ b. product c a (doubled c b)) (λ b. doubled c (product c a b))
       (composed (product c a) (doubled c) (product_right c hc a ha) (doubled_linear c hc))
       (composed (doubled c) (product c a) (doubled_linear c hc) (product_right c hc a ha)) at_bit b hb
     where
-      at_bits : (i j : ℕ) → i < 8 → j < 8 → product c (2 ^ j) (doubled c (2 ^ i)) ≡ doubled c (product c (2 ^ j) (2 ^ i))
-      at_bits i j hi hj =
-          eqb→eq (product c (2 ^ j) (doubled c (2 ^ i))) (doubled c (product c (2 ^ j) (2 ^ i)))
-          (all_at 8 (λ j. eqb (product c (2 ^ j) (doubled c (2 ^ i))) (doubled c (product c (2 ^ j) (2 ^ i))))
-          (all_at 8 (λ i. all_below 8 (λ j. eqb (product c (2 ^ j) (doubled c (2 ^ i))) (doubled c (product c (2 ^ j) (2 ^ i))))) test i hi) j hj)
+      at_bits : (i : ℕ) → i < 8 → agree 8 (λ j. product c (2 ^ j) (doubled c (2 ^ i))) (λ j. doubled c (product c (2 ^ j) (2 ^ i))) ≡ true
+      at_bits = all_at 8 (λ i. agree 8 (λ j. product c (2 ^ j) (doubled c (2 ^ i))) (λ j. doubled c (product c (2 ^ j) (2 ^ i)))) test
 
       at_bit : (i : ℕ) → i < 8 → product c a (doubled c (2 ^ i)) ≡ doubled c (product c a (2 ^ i))
       at_bit i hi =
           same_by_bits (λ a. product c a (doubled c (2 ^ i))) (λ a. doubled c (product c a (2 ^ i)))
           (product_left c hc (doubled c (2 ^ i))) (composed (doubled c) (λ a. product c a (2 ^ i)) (doubled_linear c hc) (product_left c hc (2 ^ i)))
-          (λ j hj. at_bits i j hi hj) a ha
+          (agree_at 8 (λ j. product c (2 ^ j) (doubled c (2 ^ i))) (λ j. doubled c (product c (2 ^ j) (2 ^ i))) (at_bits i hi)) a ha
 
   doublings_below : (n a : ℕ) → a < 256 → doublings c n a < 256
   unfolding doublings
@@ -197,18 +194,7 @@ module _ (c : ℕ) (hc : c < 256) (test : T (bits_double c)) where
   one_product a ha = same_by_bits (product c 1) (λ a. a) (product_right c hc 1 (omega arith)) (record { stays = λ a h. h; joins = λ a b h h'. refl }) at_bit a ha
     where
       at_bit : (k : ℕ) → k < 8 → product c 1 (2 ^ k) ≡ 2 ^ k
-      at_bit k hk = product_bit k hk 1 ∙ by k hk
-        where
-          by : (k : ℕ) → k < 8 → doublings c k 1 ≡ 2 ^ k
-          by zero h = refl
-          by (suc zero) h = refl
-          by (suc (suc zero)) h = refl
-          by (suc (suc (suc zero))) h = refl
-          by (suc (suc (suc (suc zero)))) h = refl
-          by (suc (suc (suc (suc (suc zero))))) h = refl
-          by (suc (suc (suc (suc (suc (suc zero)))))) h = refl
-          by (suc (suc (suc (suc (suc (suc (suc zero))))))) h = refl
-          by (suc (suc (suc (suc (suc (suc (suc (suc k)))))))) h = absurd (omega arith)
+      at_bit k hk = product_bit k hk 1 ∙ agree_at 8 (λ k. doublings c k 1) (λ k. 2 ^ k) refl k hk
 
   pub power_below : (v n : ℕ) → power c v n < 256
   unfolding power

@@ -5,3 +5,4 @@ pub mod Undone
 pub mod Mixes
 pub mod Alphas
 pub mod WordBoxes
+pub mod Mapped

@@ -1,5 +1,5 @@
 -- The boxes by few products, so that a table is compared with its rule in a second or two. Assumes nothing.
-use Rattle.std.proofs.Common.{◌≡◌, ℕ, ◌<◌, T, ap, arith}
+use Rattle.std.proofs.Common.{◌≡◌, ℕ, ◌<◌, true, refl, ap, arith}
 use Rattle.words.specs.Words.{◌⊕◌}
 use Rattle.fields.specs.Doubling.{doubled, partial_product, product, power}
 use Rattle.fields.specs.Boxes.{affine, sr, sq}
@@ -15,7 +15,7 @@ quick_254 c v =
     let p126 = product c (square c (square c (square c p15))) (square c p3) in
     square c (product c p126 v)
 
-quick_254_is : (c : ℕ) → c < 256 → T (bits_double c) → (v : ℕ) → v < 256 → power c v 254 ≡ quick_254 c v
+quick_254_is : (c : ℕ) → c < 256 → bits_double c ≡ true → (v : ℕ) → v < 256 → power c v 254 ≡ quick_254 c v
 unfolding quick_254
 quick_254_is c hc test v hv =
     let e1 = power_one c hc test v hv in
@@ -37,7 +37,7 @@ sr_quick v = affine (quick_254 0x1B v)
 
 pub sr_is : (v : ℕ) → v < 256 → sr v ≡ sr_quick v
 unfolding sr sr_quick doubled partial_product product
-sr_is v hv = ap affine (quick_254_is 0x1B (omega arith) tt v hv)
+sr_is v hv = ap affine (quick_254_is 0x1B (omega arith) refl v hv)
 
 unfoldable pub sq_quick : ℕ → ℕ
 sq_quick v =
@@ -53,9 +53,9 @@ sq_quick v =
     let v45 = p v41 v4 in
     v ⊕ v9 ⊕ v13 ⊕ p v13 v2 ⊕ v33 ⊕ v41 ⊕ v45 ⊕ p v45 v2 ⊕ p v33 v16 ⊕ 0x25
 
-bits : T (bits_double 0x69)
+bits : bits_double 0x69 ≡ true
 unfolding doubled partial_product product
-bits = tt
+bits = refl
 
 pub sq_is : (v : ℕ) → v < 256 → sq v ≡ sq_quick v
 unfolding sq sq_quick

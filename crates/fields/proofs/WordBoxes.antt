@@ -1,69 +1,50 @@
 -- The word boxes and what undoes them, and their four shares. Assumes nothing.
-use Rattle.std.proofs.Common.{◌≡◌, ℕ, ◌*◌, ◌/◌, ◌%◌, ◌^◌, ◌<◌, refl, ap, ◌∙◌, ap₂, arith}
-use lib.Bits.{bit_xor, bit_or, xor_lt, xor_self}
+use Rattle.std.proofs.Common.{◌≡◌, ℕ, ◌*◌, ◌/◌, ◌%◌, ◌^◌, ◌<◌, refl, ap, ◌∙◌, arith}
+use lib.Bits.{bit_or, xor_self}
 use Rattle.words.specs.Words.{◌⊕◌, word, byte_of}
 use Rattle.words.proofs.Xors.{xors}
-use Rattle.words.proofs.Words.{byte_0, byte_1, byte_2, byte_3, byte_below, word_bytes, word_below, words_same, xor_words, turn_8, turn_16, turn_24}
+use Rattle.words.proofs.Words.{byte_0, byte_1, byte_2, byte_3, byte_below, word_bytes, word_below, xor_words, turn_8, turn_16, turn_24}
 use Rattle.fields.specs.Doubling.{doubled}
 use Rattle.fields.specs.Boxes.{sr, sq, undone}
-use Rattle.fields.specs.Mixing.{mixed_bytes, mixed, boxed, unmixed, share, s1, s2, s1_undone, s2_undone}
-use Rattle.fields.specs.Theorems.{Linear, Inverse}
+use Rattle.fields.specs.Mixing.{mixed_bytes, mixed, boxed, unmixed, share, word_box, word_box_undone, s1, s2, s1_undone, s2_undone}
+use Rattle.fields.specs.Theorems.{Linear, Inverse, Permutes}
 use Rattle.fields.proofs.Fields.{doubled_linear}
-use Rattle.fields.proofs.Undone.{Bijective, sr_bijective, sq_bijective, undone_below, undone_after, undone_before}
-use Rattle.fields.proofs.Mixes.{mixed_below, mixing_returns}
+use Rattle.fields.proofs.Undone.{sr_permutes, sq_permutes, undone_below}
+use Rattle.fields.proofs.Mixes.{join_below, mixed_below, mixing_returns}
 
 -- a box on bytes, and one that undoes it, byte by byte
 boxed_back : (f g : ℕ → ℕ) → ((a : ℕ) → a < 256 → f a < 256) → ((a : ℕ) → a < 256 → g (f a) ≡ a) → (w : ℕ) → w < 2 ^ 32 → boxed g (boxed f w) ≡ w
 unfolding boxed
-boxed_back f g stays back w below =
-    let h0 = stays (byte_of w 0) (byte_below w 0) in
-    let h1 = stays (byte_of w 1) (byte_below w 1) in
-    let h2 = stays (byte_of w 2) (byte_below w 2) in
-    let h3 = stays (byte_of w 3) (byte_below w 3) in
-    words_same
-    (ap g (byte_0 _ _ _ _ h0 h1 h2 h3) ∙ back (byte_of w 0) (byte_below w 0))
-    (ap g (byte_1 _ _ _ _ h1 h2 h3) ∙ back (byte_of w 1) (byte_below w 1))
-    (ap g (byte_2 _ _ _ _ h2 h3) ∙ back (byte_of w 2) (byte_below w 2))
-    (ap g (byte_3 _ _ _ _ h3) ∙ back (byte_of w 3) (byte_below w 3))
-    ∙ word_bytes w below
+boxed_back f g stays back w below = simp (byte_0, byte_1, byte_2, byte_3, back, stays, byte_below) (word_bytes w below)
 
 boxed_below : (f : ℕ → ℕ) → ((a : ℕ) → a < 256 → f a < 256) → (w : ℕ) → boxed f w < 2 ^ 32
 unfolding boxed
-boxed_below f stays w =
-    word_below (f (byte_of w 0)) (f (byte_of w 1)) (f (byte_of w 2)) (f (byte_of w 3)) (stays (byte_of w 0) (byte_below w 0)) (stays (byte_of w 1) (byte_below w 1)) (stays (byte_of w 2) (byte_below w 2)) (stays (byte_of w 3) (byte_below w 3))
+boxed_below f stays w = search (word_below, stays, byte_below)
 
 -- a word box, by the boxed bytes
 pub mixed_boxed : (f d : ℕ → ℕ) → ((a : ℕ) → a < 256 → f a < 256) → (w : ℕ) → mixed d (boxed f w) ≡ mixed_bytes d (f (byte_of w 0)) (f (byte_of w 1)) (f (byte_of w 2)) (f (byte_of w 3))
 unfolding mixed boxed
-mixed_boxed f d stays w =
-    let h0 = stays (byte_of w 0) (byte_below w 0) in
-    let h1 = stays (byte_of w 1) (byte_below w 1) in
-    let h2 = stays (byte_of w 2) (byte_below w 2) in
-    let h3 = stays (byte_of w 3) (byte_below w 3) in
-    let e0 = byte_0 _ _ _ _ h0 h1 h2 h3 in
-    let e1 = byte_1 (f (byte_of w 0)) _ _ _ h1 h2 h3 in
-    let e2 = byte_2 (f (byte_of w 0)) (f (byte_of w 1)) _ _ h2 h3 in
-    let e3 = byte_3 (f (byte_of w 0)) (f (byte_of w 1)) (f (byte_of w 2)) _ h3 in
-    cc
+mixed_boxed f d stays w = simp (byte_0, byte_1, byte_2, byte_3, stays, byte_below)
 
-word_box_inverse : (box d : ℕ → ℕ) → Bijective box → Linear d → Inverse (λ w. mixed d (boxed box w)) (λ w. boxed (undone box) (unmixed d w))
-unfolding unmixed
-word_box_inverse box d b l = record {
-  f_word = λ w below. mixed_below d l (boxed box w);
-  g_word = λ w below. boxed_below (undone box) (undone_below box b) (mixed d (mixed d (mixed d w)));
-  g_f = λ w below.
-      ap (boxed (undone box)) (mixing_returns d l (boxed box w) (boxed_below box b.stays w)) ∙ boxed_back box (undone box) b.stays (undone_after box b) w below;
-  f_g = λ w below.
-      ap (mixed d) (boxed_back (undone box) box (undone_below box b) (undone_before box b) (mixed d (mixed d (mixed d w))) (mixed_below d l (mixed d (mixed d w)))) ∙ mixing_returns d l w below;
-}
+-- a word box and what undoes it, by any tap byte and any permutation of the bytes
+pub word_box_inverse : (c : ℕ) (box : ℕ → ℕ) → c < 256 → Permutes box → Inverse (word_box c box) (word_box_undone c box)
+unfolding word_box word_box_undone unmixed
+word_box_inverse c box hc p =
+    let d = doubled c in
+    let l = doubled_linear c hc in
+    record {
+      f_word = λ w below. mixed_below d l (boxed box w);
+      g_word = λ w below. boxed_below (undone box) (λ v hv. undone_below box v) (mixed d (mixed d (mixed d w)));
+      g_f = λ w below. ap (boxed (undone box)) (mixing_returns d l (boxed box w) (boxed_below box p.stays w)) ∙ boxed_back box (undone box) p.stays p.back w below;
+      f_g = λ w below.
+          ap (mixed d) (boxed_back (undone box) box (λ v hv. undone_below box v) p.forth (mixed d (mixed d (mixed d w))) (mixed_below d l (mixed d (mixed d w)))) ∙ mixing_returns d l w below;
+    }
 
 pub s1_inverse : Inverse s1 s1_undone
-unfolding s1 s1_undone
-s1_inverse = word_box_inverse sr (doubled 0x1B) sr_bijective (doubled_linear 0x1B (omega arith))
+s1_inverse = word_box_inverse 0x1B sr (omega arith) sr_permutes
 
 pub s2_inverse : Inverse s2 s2_undone
-unfolding s2 s2_undone
-s2_inverse = word_box_inverse sq (doubled 0x69) sq_bijective (doubled_linear 0x69 (omega arith))
+s2_inverse = word_box_inverse 0x69 sq (omega arith) sq_permutes
 
 module _ (d : ℕ → ℕ) (l : Linear d) where
   share_word : (b : ℕ) → share d b ≡ word (d b ⊕ b) b b (d b)
@@ -82,24 +63,8 @@ module _ (d : ℕ → ℕ) (l : Linear d) where
       ≡ mixed_bytes d a b c e
   unfolding mixed_bytes
   shares_join a b c e ha hb hc he =
-      let da = l.stays a ha in
-      let db = l.stays b hb in
-      let dc = l.stays c hc in
-      let de = l.stays e he in
-      let xa = xor_lt 8 (d a) a da ha in
-      let xb = xor_lt 8 (d b) b db hb in
-      let xc = xor_lt 8 (d c) c dc hc in
-      let xe = xor_lt 8 (d e) e de he in
-      ap₂ bit_xor
-      (ap₂ bit_xor
-      (ap₂ bit_xor (share_word e) (ap (λ w. bit_or (w * 256 % 4294967296) (w / 16777216)) (share_word c) ∙ turn_8 (d c ⊕ c) c c (d c) xc hc hc dc)
-      ∙ xor_words (d e ⊕ e) e e (d e) c c (d c) (d c ⊕ c) he he de hc dc xc)
-      (ap (λ w. bit_or (w * 65536 % 4294967296) (w / 65536)) (share_word b) ∙ turn_16 (d b ⊕ b) b b (d b) xb hb hb db)
-      ∙ xor_words ((d e ⊕ e) ⊕ c) (e ⊕ c) (e ⊕ d c) (d e ⊕ (d c ⊕ c)) b (d b) (d b ⊕ b) b (xor_lt 8 e c he hc) (xor_lt 8 e (d c) he dc) (xor_lt 8 (d e) (d c ⊕ c) de xc) db xb hb)
-      (ap (λ w. bit_or (w * 16777216 % 4294967296) (w / 256)) (share_word a) ∙ turn_24 (d a ⊕ a) a a (d a) xa ha ha da)
-      ∙ xor_words ((d e ⊕ e) ⊕ c ⊕ b) (e ⊕ c ⊕ d b) (e ⊕ d c ⊕ (d b ⊕ b)) (d e ⊕ (d c ⊕ c) ⊕ b) (d a) (d a ⊕ a) a a
-      (xor_lt 8 (e ⊕ c) (d b) (xor_lt 8 e c he hc) db) (xor_lt 8 (e ⊕ d c) (d b ⊕ b) (xor_lt 8 e (d c) he dc) xb) (xor_lt 8 (d e ⊕ (d c ⊕ c)) b (xor_lt 8 (d e) (d c ⊕ c) de xc) hb) xa ha ha
-      ∙ sums a b c e (d a) (d b) (d c) (d e)
+      let xc = join_below (d c) c (l.stays c hc) hc in
+      simp (share_word, turn_8, turn_16, turn_24, xor_words, join_below, l.stays) (sums a b c e (d a) (d b) (d c) (d e))
     where
       sums :
           (a b c e p q r s : ℕ)

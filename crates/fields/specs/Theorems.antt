@@ -2,6 +2,7 @@
 use Rattle.std.specs.Prelude.{◌≡◌, ℕ, ◌^◌, ◌<◌}
 use Rattle.words.specs.Words.{◌⊕◌}
 use Rattle.fields.specs.Doubling.{doubled}
+use Rattle.fields.specs.Boxes.{undone}
 use Rattle.fields.specs.Mixing.{mixed, s1, s2, s1_undone, s2_undone}
 use Rattle.fields.specs.Alpha.{times_alpha, over_alpha}
 
@@ -17,6 +18,12 @@ DoublingLinear = (c : ℕ) → c < 256 → Linear (doubled c)
 -- mixing four times over any linear doubling gives the word back
 abbrev pub MixingReturns : Type 0
 MixingReturns = (d : ℕ → ℕ) → Linear d → (w : ℕ) → w < 2 ^ 32 → mixed d (mixed d (mixed d (mixed d w))) ≡ w
+
+-- a box takes bytes to bytes, and is undone both ways round
+pub record Permutes (box : ℕ → ℕ) : Type 0 where
+  pub stays : (a : ℕ) → a < 256 → box a < 256
+  pub back : (a : ℕ) → a < 256 → undone box (box a) ≡ a
+  pub forth : (v : ℕ) → v < 256 → box (undone box v) ≡ v
 
 -- f and g take words to words, and undo each other on every word
 pub record Inverse (f g : ℕ → ℕ) : Type 0 where

@@ -92,16 +92,20 @@ pub fn div_alpha_entry(byte: u8) -> u32
 }
 
 // αw. Multiplication by α and by its inverse undo each other.
+#[tactic(auto, using(crate::proofs::Alphas::alpha_inverse), unfolding(crate::specs::Alpha::times_alpha))]
 pub fn times_alpha(word: u32) -> u32
     ensures value { result ≡ times_alpha word }
     ensures undone { AlphaInverse }
 {
-    (word << 8) ^ mul_alpha_entry((word >> 24) as u8)
+    let [top, _, _, _] = word.to_be_bytes();
+    (word << 8) ^ mul_alpha_entry(top)
 }
 
-// α⁻¹w.
+// α⁻¹w. Kept beside times_alpha: shift, byte and table all differ, so that one function of both would be no plainer.
+#[tactic(auto, using(words::proofs::Words::byte_low), unfolding(crate::specs::Alpha::over_alpha))]
 pub fn over_alpha(word: u32) -> u32
     ensures { result ≡ over_alpha word }
 {
-    (word >> 8) ^ div_alpha_entry((word & 0xFF) as u8)
+    let [_, _, _, low] = word.to_be_bytes();
+    (word >> 8) ^ div_alpha_entry(low)
 }

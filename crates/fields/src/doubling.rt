@@ -4,6 +4,7 @@ ghost use Rattle.fields.specs.Doubling.{doubled};
 ghost use Rattle.fields.specs.Theorems.{DoublingLinear};
 
 // The byte shifted left by one, joined with the tap byte where a bit was shifted out. Doubling is linear.
+#[tactic(auto, using(crate::proofs::Fields::doubled_linear), unfolding(crate::specs::Doubling::doubled))]
 pub fn double(byte: u8, tap: u8) -> u8
     ensures value { result ≡ doubled tap byte }
     ensures linear { DoublingLinear }

@@ -3,22 +3,22 @@ use Rattle.std.proofs.Common.{◌≡◌, [], ◌∷◌, ◌++◌, replicate, ref
 use Rattle.words.specs.Words.{word}
 use Rattle.fields.specs.Doubling.{doubled, doublings, partial_product, product, power}
 use Rattle.fields.specs.Boxes.{rotated, affine, sr, sq, undone}
-use Rattle.fields.specs.Mixing.{mixed_bytes, mixed, boxed, unmixed, s1, s2, s1_undone}
+use Rattle.fields.specs.Mixing.{mixed_bytes, mixed, boxed, unmixed, word_box, word_box_undone, s1_undone}
 use Rattle.fields.specs.Alpha.{times_beta, mul_alpha, div_alpha, times_alpha, over_alpha}
-use Rattle.fields.proofs.Undone.{sr_bijective, undone_is}
+use Rattle.fields.proofs.Undone.{sr_permutes, undone_is}
 use Rattle.snow.specs.Cipher.{step, unstep}
 use Rattle.snow.specs.Specimens.{Specimens}
 
 undone_0 : undone sr 0 ≡ 0x52
 unfolding doubled partial_product product power rotated affine sr
-undone_0 = undone_is sr sr_bijective 0 0x52 (omega arith) refl
+undone_0 = undone_is sr sr_permutes 0 0x52 (omega arith) refl
 
 back_0 : s1_undone 0 ≡ 0x52525252
-unfolding doubled mixed_bytes mixed boxed unmixed s1_undone
+unfolding doubled mixed_bytes mixed boxed unmixed word_box_undone
 back_0 = ap (λ b. word b b b b) undone_0
 
 pub specimens : Specimens
-unfolding doubled doublings partial_product product power rotated affine sr sq mixed_bytes mixed boxed s1 s2 times_beta mul_alpha div_alpha times_alpha over_alpha step unstep
+unfolding doubled doublings partial_product product power rotated affine sr sq mixed_bytes mixed boxed word_box times_beta mul_alpha div_alpha times_alpha over_alpha step unstep
 specimens = record {
   doubled_69 = refl;
   doubled_96 = refl;

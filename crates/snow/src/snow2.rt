@@ -6,7 +6,7 @@ ghost use Rattle.snow.specs.Snow2Laws.{snow2_sound};
 use crate::cipher::Snow;
 use crate::machines::Machine;
 use crate::refusals::FillFault;
-use fields::{s1, s1_inverse};
+use fields::{S1, WordBox};
 
 // The words a0 to a15 of the register, and b1 and b2 of the machine.
 pub type Snow2 = Snow<Snow2Machine>;
@@ -53,12 +53,12 @@ impl Machine for Snow2Machine {
 
     fn clock(&mut self, word: u32) {
         let b1 = self.b2.wrapping_add(word);
-        let b2 = s1(self.b1);
+        let b2 = S1::apply(self.b1);
         *self = Snow2Machine { b1, b2 };
     }
 
     fn unclock(&mut self, word: u32) {
-        let b1 = s1_inverse(self.b2);
+        let b1 = S1::undo(self.b2);
         let b2 = self.b1.wrapping_sub(word);
         *self = Snow2Machine { b1, b2 };
     }

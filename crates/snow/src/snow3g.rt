@@ -6,7 +6,7 @@ ghost use Rattle.snow.specs.Snow3gLaws.{snow3g_sound};
 use crate::cipher::Snow;
 use crate::machines::Machine;
 use crate::refusals::FillFault;
-use fields::{s1, s1_inverse, s2, s2_inverse};
+use fields::{S1, S2, WordBox};
 
 // The words s0 to s15 of the register, and R1, R2 and R3 of the machine.
 pub type Snow3g = Snow<Snow3gMachine>;
@@ -63,14 +63,14 @@ impl Machine for Snow3gMachine {
 
     fn clock(&mut self, word: u32) {
         let r1 = self.r2.wrapping_add(self.r3 ^ word);
-        let r2 = s1(self.r1);
-        let r3 = s2(self.r2);
+        let r2 = S1::apply(self.r1);
+        let r3 = S2::apply(self.r2);
         *self = Snow3gMachine { r1, r2, r3 };
     }
 
     fn unclock(&mut self, word: u32) {
-        let r1 = s1_inverse(self.r2);
-        let r2 = s2_inverse(self.r3);
+        let r1 = S1::undo(self.r2);
+        let r2 = S2::undo(self.r3);
         let r3 = self.r1.wrapping_sub(r2) ^ word;
         *self = Snow3gMachine { r1, r2, r3 };
     }

@@ -1,5 +1,6 @@
 // The tables that are held, by the calls that give their entries.
 use anyhow::anyhow;
+use fields::{S1, S2, WordBox};
 
 // S1(i) and S2(i) are the shares of the bytes in the word boxes, byte 0 the least significant.
 #[derive(Clone, Copy)]
@@ -15,20 +16,12 @@ pub(crate) enum Table {
 impl Table {
     pub(crate) fn held(self, place: u8) -> u32 {
         match self {
-            Table::Sr => u32::from(fields::box_sr(place)),
-            Table::Sq => u32::from(fields::box_sq(place)),
+            Table::Sr => u32::from(S1::box_byte(place)),
+            Table::Sq => u32::from(S2::box_byte(place)),
             Table::MulAlpha => fields::mul_alpha_entry(place),
             Table::DivAlpha => fields::div_alpha_entry(place),
-            Table::S1(byte) => {
-                let turn = u32::from(byte % 4) * 8;
-                let rest = fields::s1(0) ^ fields::s1_share(0).rotate_left(turn);
-                fields::s1(u32::from(place) << turn) ^ rest
-            }
-            Table::S2(byte) => {
-                let turn = u32::from(byte % 4) * 8;
-                let rest = fields::s2(0) ^ fields::s2_share(0).rotate_left(turn);
-                fields::s2(u32::from(place) << turn) ^ rest
-            }
+            Table::S1(byte) => held_share::<S1>(byte, place),
+            Table::S2(byte) => held_share::<S2>(byte, place),
         }
     }
 
@@ -39,6 +32,13 @@ impl Table {
             _ => 10,
         }
     }
+}
+
+// The share of a byte at a place of a word, by the whole box: what is left where the shares of three bytes 0 are taken off.
+fn held_share<B: WordBox>(byte: u8, place: u8) -> u32 {
+    let turn = u32::from(byte % 4) * 8;
+    let rest = B::apply(0) ^ B::share(0).rotate_left(turn);
+    B::apply(u32::from(place) << turn) ^ rest
 }
 
 // A number as printed, in hexadecimal, with or without 0x before it.
