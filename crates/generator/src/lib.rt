@@ -3,7 +3,7 @@
 
 ghost use Rattle.std.specs.Prelude.{◌≡◌, ℕ, List};
 ghost use Rattle.generator.specs.Refusals.{fault_number, member, origin_number};
-ghost use Rattle.generator.specs.Meaning.{Meaning, Lawful, State, zeros};
+ghost use Rattle.generator.specs.Meaning.{Meaning, Lawful, State, times, zeros};
 ghost use Rattle.generator.specs.Calls.{Loaded, Named};
 
 // Why a key or an IV has no load, with the member of a combined generator that said so; 0 is the generator itself.
@@ -83,6 +83,24 @@ pub trait Generator {
     fn origin(&mut self, key: &mut [u8], iv: &mut [u8]) -> Result<(usize, usize), OriginFault>
         ensures named { Named meaning 0 (state self.old) key.old iv.old result key.new iv.new }
         ensures same { state self.new ≡ state self.old };
+
+    // So many words on.
+    final fn forward_by(&mut self, words: u64)
+        ensures { state self.new ≡ times words meaning.next (state self.old) }
+    {
+        for step in 0..words {
+            self.forward();
+        }
+    }
+
+    // So many words back.
+    final fn backward_by(&mut self, words: u64)
+        ensures { state self.new ≡ times words meaning.back (state self.old) }
+    {
+        for step_back in 0..words {
+            self.backward();
+        }
+    }
 
     ghost lawful: { Lawful meaning };
 
