@@ -4,7 +4,7 @@ use Rattle.std.proofs.lemmas.List.{take_rest}
 use Rattle.std.proofs.lemmas.Bool.Decides.{nat_tests}
 use Rattle.generator.specs.Meaning.{Meaning}
 use Rattle.strips.specs.declared.stops.Report.{Report}
-use Rattle.strips.specs.Reading.{word_at}
+use Rattle.words.specs.Words.{word_at}
 use Rattle.strips.specs.Runs.{bad_length, RunOf}
 use Rattle.strips.specs.Sheets.{generator_of, SheetOf}
 

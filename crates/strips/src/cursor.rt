@@ -3,9 +3,10 @@ ghost use Rattle.std.specs.Prelude.{◌≡◌, ◌+◌, ◌*◌, ◌/◌, ◌^�
 ghost use Rattle.strips.specs.Cursors.{Steady, ReadOn};
 ghost use Rattle.strips.specs.Reading.{filled, words_for, reading, reads, reads_opening, reads_payload, Within};
 
-use crate::bytes::{is_zero, read_word};
+use crate::bytes::is_zero;
 use crate::orders::Order;
 use crate::stops::Stop;
+use words::word_at;
 
 // Where a strip is read: the number of the next word, and the orders read so far.
 #[derive(Drop)]
@@ -55,7 +56,7 @@ fn read_opening(strip: &[u8], place: usize, bits: usize) -> Result<(Order<'_>, u
     let order = Order::Open {
         key: &strip[4 * key_at..4 * key_at + key_len],
         iv: &strip[4 * iv_at..4 * iv_at + iv_len],
-        limit: u64::from(read_word(strip, place + 1)),
+        limit: u64::from(word_at(strip, place + 1)),
     };
     Ok((order, words))
 }
@@ -86,7 +87,7 @@ fn read_at(strip: &[u8], place: usize) -> Result<(Order<'_>, usize), Stop>
     if place >= strip.len() / 4 {
         return Err(Stop::CutShort);
     }
-    let word = read_word(strip, place);
+    let word = word_at(strip, place);
     let bits = (word % (1 << 28)) as usize;
     match word >> 28 {
         0 if bits == 0 => Ok((Order::End, 1)),

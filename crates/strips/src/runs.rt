@@ -1,6 +1,6 @@
 // Runs of strips.
 ghost use Rattle.std.specs.Prelude.{◌≡◌, ℕ, ◌+◌, ◌≤◌, List, ◌++◌, length, drop, Some};
-ghost use Rattle.session.specs.View.{view, shut};
+ghost use Rattle.session.specs.View.{shut};
 ghost use Rattle.history.specs.Laws.{SessionLaws};
 ghost use Rattle.strips.specs.Orders.{asked};
 ghost use Rattle.strips.specs.Replies.{put_at};
@@ -56,7 +56,7 @@ fn turn<G: Generator>(
     scratch: &mut [u8],
 ) -> Result<bool, Stop>
     requires { (Between cursor.old report.old (length replies.old)) × (length scratch.old ≡ 64000) }
-    ensures turned { (p : Progress) (before : List ℕ) → Holds p before report.old replies.old → Turned G.Generator.meaning cursor.old.strip.now p before (view G.Generator.state session.old) (length replies.old) result report.new replies.new (view G.Generator.state session.new) }
+    ensures turned { (p : Progress) (before : List ℕ) → Holds p before report.old replies.old → Turned G.Generator.meaning cursor.old.strip.now p before session.old (length replies.old) result report.new replies.new session.new }
     ensures onward { Onward cursor.old result cursor.new report.new (length replies.old) }
 {
     let at = report.bytes;
@@ -89,7 +89,7 @@ fn run_orders<G: Generator>(
     replies: &mut [u8],
     scratch: &mut [u8],
 ) -> Report
-    requires { (view G.Generator.state session.old ≡ shut G.Generator.meaning) × ((length strip.now ≤ 64000) × (length scratch.old ≡ 64000)) }
+    requires { (session.old ≡ shut G.Generator.meaning) × ((length strip.now ≤ 64000) × (length scratch.old ≡ 64000)) }
     ensures { Ran G.Generator.meaning strip.now replies.old result replies.new }
 {
     let mut cursor = Cursor {

@@ -1,5 +1,4 @@
 use Rattle.std.proofs.Common.{◌≡◌, ℕ, ◌-◌, List, ◌∷◌, ◌++◌, take, replicate, Ok, Err, sym, ◌∙◌, subst, ap₂, arith}
-use Rattle.session.specs.View.{view}
 use Rattle.strips.specs.Orders.{naming}
 use Rattle.strips.specs.Answered.{Answered, asks_origin}
 use Rattle.strips.proofs.Puts.{front_part}
@@ -16,17 +15,17 @@ returns-in_err-key_len g c =
 
 pub slice_bounds-put_names-end : goal.slice_bounds-put_names-end
 slice_bounds-put_names-end g c =
-    let v = view g.G.Generator.state c.args.session.now in
+    let v = c.args.session.now in
     (origin_short g.G.Generator.meaning v (replicate 255 0) (replicate 255 0) (c.in_ok-key_len.key_len, c.in_ok-key_len.iv_len) c.origin.new.key c.origin.new.iv c.in_ok-key_len.ensures.named).0
 
 pub slice_bounds-put_names-end-2 : goal.slice_bounds-put_names-end-2
 slice_bounds-put_names-end-2 g c =
-    let v = view g.G.Generator.state c.args.session.now in
+    let v = c.args.session.now in
     (origin_short g.G.Generator.meaning v (replicate 255 0) (replicate 255 0) (c.in_ok-key_len.key_len, c.in_ok-key_len.iv_len) c.origin.new.key c.origin.new.iv c.in_ok-key_len.ensures.named).1
 
 pub put_names-requires : goal.put_names-requires
 put_names-requires g c =
-    let v = view g.G.Generator.state c.args.session.now in
+    let v = c.args.session.now in
     let short = origin_short g.G.Generator.meaning v (replicate 255 0) (replicate 255 0) (c.in_ok-key_len.key_len, c.in_ok-key_len.iv_len) c.origin.new.key c.origin.new.iv c.in_ok-key_len.ensures.named in
     let key = (front_part c.in_ok-key_len.key_len c.origin.new.key short.0).1 in
     let iv = (front_part c.in_ok-key_len.iv_len c.origin.new.iv short.1).1 in
@@ -34,7 +33,7 @@ put_names-requires g c =
 
 pub returns : goal.returns
 returns g c =
-    let v = view g.G.Generator.state c.args.session.now in
+    let v = c.args.session.now in
     let m = g.G.Generator.meaning in
     let k = c.in_ok-key_len.key_len in
     let i = c.in_ok-key_len.iv_len in
@@ -47,6 +46,6 @@ returns g c =
     let ks = c.origin.auto.key in
     let is = c.origin.auto.iv in
     record {
-      answered = subst (λ bs. Answered m v naming (Ok bs) (view g.G.Generator.state c.origin.new.self)) (sym same) (same_session c.origin.ensures.same (asks_origin (Ok (k, i)) key iv c.in_ok-key_len.ensures.named));
+      answered = subst (λ bs. Answered m v naming (Ok bs) c.origin.new.self) (sym same) (same_session c.origin.ensures.same (asks_origin (Ok (k, i)) key iv c.in_ok-key_len.ensures.named));
       sized = omega (arith, c.put_names.ensures.size);
     }

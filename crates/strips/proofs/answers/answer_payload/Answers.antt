@@ -1,6 +1,5 @@
 use Rattle.std.proofs.Common.{◌≡◌, length, Ok, Err, sym, ap, ◌∙◌, subst, arith}
 use Rattle.std.proofs.lemmas.List.{take_at}
-use Rattle.session.specs.View.{view}
 use Rattle.strips.specs.Orders.{applying}
 use Rattle.strips.specs.Answered.{Answered}
 use Rattle.strips.proofs.Answering.{refused, refused_sized, payload_answered}
@@ -20,7 +19,7 @@ returns g c =
     let after = c.apply_keystream.new.buffer in
     let long : length after ≡ length payload = c.apply_keystream.auto.buffer ∙ ap length c.copy_from_slice.ensures.after in
     record {
-      answered = subst (λ bytes. Answered g.G.Generator.meaning (view g.G.Generator.state c.args.session.now) (applying payload) (Ok bytes) (view g.G.Generator.state c.apply_keystream.new.self))
+      answered = subst (λ bytes. Answered g.G.Generator.meaning c.args.session.now (applying payload) (Ok bytes) c.apply_keystream.new.self)
           (sym (take_at after _ (length payload) long))
           (payload_answered payload c.copy_from_slice.new.self after (Ok tt) c.copy_from_slice.ensures.after c.in_ok-apply_keystream.ensures);
       sized = omega arith;

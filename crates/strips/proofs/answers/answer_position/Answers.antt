@@ -1,5 +1,4 @@
 use Rattle.std.proofs.Common.{◌≡◌, length, take, Ok, Err, sym, ap, ◌∙◌, subst, arith}
-use Rattle.session.specs.View.{view}
 use Rattle.strips.specs.Orders.{placing}
 use Rattle.strips.specs.Answered.{Answered, asks_place, eight_bytes}
 use Rattle.strips.proofs.Puts.{take_put}
@@ -21,7 +20,7 @@ returns g c =
     let long : length bytes ≡ 8 = ap length c.to_be_bytes.ensures in
     let same : take 8 c.put.new.buffer ≡ eight_bytes n =
     ap (take 8) c.put.ensures ∙ take_put 0 bytes c.args.reply.now 8 (omega arith) (omega arith) ∙ c.to_be_bytes.ensures in
-    let v = view g.G.Generator.state c.args.session.now in
+    let v = c.args.session.now in
     record {
       answered = subst (λ bs. Answered g.G.Generator.meaning v placing (Ok bs) v) (sym same) (asks_place (Ok n) c.in_ok-position.ensures);
       sized = omega arith;

@@ -1,12 +1,11 @@
 use Rattle.std.proofs.Common.{◌≡◌, ◌-◌, length}
-use Rattle.session.specs.View.{view}
 use Rattle.strips.specs.Runs.{Progress, Turns}
 use Rattle.strips.specs.Turns.{Holds, Between}
 use Rattle.strips.proofs.runs.run_orders.Given as goal
 
 abbrev pub invariant-loop-last : goal.invariant-loop-last
 invariant-loop-last g l =
-    (p : Progress) × Turns g.G.Generator.meaning l.strip (length l.initial.replies) p (view g.G.Generator.state l.session)
+    (p : Progress) × Turns g.G.Generator.meaning l.strip (length l.initial.replies) p l.session
     × Holds p l.initial.replies l.report l.replies × Between l.cursor l.report (length l.initial.replies) × (l.cursor.strip.now ≡ l.strip)
 
 abbrev pub decreases-loop-last : goal.decreases-loop-last
