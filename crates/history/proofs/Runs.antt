@@ -1,9 +1,8 @@
 -- Runs of requests are runs of calls. Assumes nothing.
-use Rattle.std.proofs.Common.{◌≡◌, ℕ, suc, ◌+◌, ◌<◌, ◌≤◌, Bool, true, false, cond, eqb, List, [], ◌∷◌, ◌++◌, length, get_or, take, Ok, Err, vec_items, Result, sym, refl, subst, eqb-true}
+use Rattle.std.proofs.Common.{◌≡◌, ℕ, ◌+◌, ◌<◌, ◌≤◌, Bool, true, false, cond, eqb, List, [], ◌∷◌, ◌++◌, length, get_or, take, Ok, Err, vec_items, Result, sym, refl, subst, eqb-true}
 use borrow.Author.Tests.{eqb-false}
 use Rattle.std.proofs.lemmas.List.{take_more}
 use Rattle.generator.specs.Meaning.{Meaning}
-use Rattle.words.specs.Words.{Bytes}
 use Rattle.history.specs.declared.requests.Request.{Request}
 use Rattle.history.specs.declared.requests.Answer.{Answer}
 use Rattle.session.specs.View.{View}
@@ -11,10 +10,6 @@ use Rattle.session.specs.declared.refusals.Refusal.{Refusal}
 use Rattle.session.specs.Calls.{Applied, OriginOf}
 use Rattle.history.specs.Laws.{Event, piece, stray, unchanged, Call, open_accepted, open_refused, apply_piece, apply_stray, apply_refused, elsewhere_accepted, elsewhere_refused, skip_accepted, skip_refused, back_accepted, back_refused, ask, close_accepted, close_refused, After, made, then}
 use Rattle.history.specs.Replays.{Does, opens, applies, elsewhere, skips, steps_back, asks_place, asks_origin, closes, accepted, event, Ran, none, more, Stopped}
-
-pub bytes_from : (xs : List ℕ) → ((i : ℕ) → get_or xs i 0 < 256) → Bytes xs
-bytes_from [] each = tt
-bytes_from (x ∷ xs) each = (each 0, bytes_from xs (λ i. each (suc i)))
 
 -- an accepted call on the message, at the position or not
 on_message : (m : Meaning) (v w : View) (msg after : List ℕ) (start count : ℕ) → Applied m v start count msg (Ok tt) w after → Call m v msg (cond (eqb start v.position) (piece start count) (stray start count)) w after

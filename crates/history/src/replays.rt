@@ -1,7 +1,5 @@
 // Lists of calls made on one session.
 ghost use Rattle.std.specs.Prelude.{◌≡◌, MatchResult};
-ghost use Rattle.words.specs.Words.{Bytes};
-ghost use Rattle.session.specs.View.{view};
 ghost use Rattle.history.specs.Laws.{SessionLaws};
 ghost use Rattle.history.specs.Replays.{Does, Replayed, Stopped};
 
@@ -9,16 +7,7 @@ use crate::requests::{Answer, Request};
 use generator::Generator;
 use session::Session;
 use std::alloc::{AllocError, Global};
-
-// What a slice of bytes holds is bytes, as a proof sees once one is read.
-fn are_bytes(bytes: &[u8])
-    ensures { Bytes bytes.now }
-{
-    if bytes.is_empty() {
-        return;
-    }
-    let _first = bytes[0];
-}
+use words::are_bytes;
 
 // One request. Where memory is short nothing is done.
 fn perform<G: Generator>(
@@ -27,7 +16,7 @@ fn perform<G: Generator>(
     request: &Request<'_>,
     message: &mut [u8],
 ) -> Result<Answer, AllocError>
-    ensures { MatchResult result (λ a. Does G.Generator.meaning (view G.Generator.state session.old) message.old request.now a (view G.Generator.state session.new) message.new) (λ _. (view G.Generator.state session.new ≡ view G.Generator.state session.old) × (message.new ≡ message.old)) }
+    ensures { MatchResult result (λ a. Does G.Generator.meaning session.old message.old request.now a session.new message.new) (λ _. (session.new ≡ session.old) × (message.new ≡ message.old)) }
 {
     match request {
         Request::Open { key, iv, limit } => {
@@ -69,7 +58,7 @@ pub fn replay<G: Generator + Drop>(
     requests: &[Request<'_>],
     message: &mut [u8],
 ) -> Result<(Session<G>, Vec<Answer>), AllocError>
-    ensures replayed { MatchResult result (λ p. Replayed G.Generator.meaning message.old requests.now p.1.items (view G.Generator.state p.0) message.new) (λ _. Stopped G.Generator.meaning message.old requests.now message.new) }
+    ensures replayed { MatchResult result (λ p. Replayed G.Generator.meaning message.old requests.now p.1.items p.0 message.new) (λ _. Stopped G.Generator.meaning message.old requests.now message.new) }
     ensures laws { SessionLaws G.Generator.meaning }
 {
     let mut session = Session::new(generator);

@@ -1,16 +1,15 @@
 -- Bytes joined one by one. Assumes nothing.
-use Rattle.std.proofs.Common.{◌≡◌, ℕ, zero, suc, ◌+◌, ◌-◌, ◌*◌, ◌/◌, ◌%◌, ◌^◌, ◌<◌, ◌≤◌, ◌≢◌, List, [], ◌∷◌, length, get_or, take, drop, set, Ok, sym, refl, ap, ◌∙◌, subst, ap₂, ⊎_elim, zero-add, arith, get_or-set_other, get_or-set_same, rules, below_more}
+use Rattle.std.proofs.Common.{◌≡◌, ℕ, zero, suc, ◌+◌, ◌-◌, ◌*◌, ◌/◌, ◌%◌, ◌^◌, ◌<◌, ◌≤◌, ◌≢◌, List, [], ◌∷◌, length, get_or, take, drop, set, ◌++◌, sym, refl, ap, ◌∙◌, subst, ap₂, ⊎_elim, zero-add, arith, get_or-set_other, get_or-set_same, rules, below_more}
 use lib.Bits.{bit_xor, xor_lt}
 use borrow.Rule.Slice.PartMut.{put_mid}
-use Rattle.std.proofs.lemmas.List.{places, get_or_past}
+use Rattle.std.proofs.lemmas.List.{places, get_or_past, get_or-append_right, get_or_append_left, length-append}
 use Rattle.std.proofs.lemmas.Bool.{cases_lt}
-use Rattle.std.proofs.lemmas.Bool.Decides.{nat_tests}
 use Rattle.words.specs.Words.{Bytes, word, byte_of, bytes_of}
 use Rattle.words.proofs.Words.{byte_0, byte_1, byte_2, byte_3, byte_below, word_bytes, words_same, xor_words}
 use Rattle.generator.specs.Meaning.{Meaning, times}
 use Rattle.generator.proofs.Repeats.{times_add}
-use Rattle.session.specs.View.{View, placed, moved, ahead, stream_byte}
-use Rattle.session.specs.Calls.{Joined, Applied}
+use Rattle.session.specs.View.{View, placed, ahead, stream_byte}
+use Rattle.session.specs.Calls.{Joined, JoinedAll}
 
 module _ (m : Meaning) (s : List ℕ) (p : ℕ) where
   -- a byte more that ends a word, and one that does not
@@ -52,7 +51,7 @@ module _ (start count k : ℕ) (buffer part : List ℕ) (within : start + count 
   mid_read i h = search (rules, places)
 
 -- a part of a buffer is joined
-pub part_joined : (m : Meaning) (v : View) (start count k n : ℕ) (buffer part : List ℕ) → start + count ≤ length buffer → k ≡ count → n ≡ count → length part ≡ count → Joined m v 0 n (take k (drop start buffer)) part
+part_joined : (m : Meaning) (v : View) (start count k n : ℕ) (buffer part : List ℕ) → start + count ≤ length buffer → k ≡ count → n ≡ count → length part ≡ count → Joined m v 0 n (take k (drop start buffer)) part
     → Joined m v start count buffer (put_mid start k buffer part)
 part_joined m v start count k n buffer part within size whole long joined =
     record {
@@ -63,15 +62,6 @@ part_joined m v start count k n buffer part within size whole long joined =
       front = mid_front start count k buffer part within size long;
       rest = mid_rest start count k buffer part within size long;
     }
-
-pub applied : (m : Meaning) (v : View) (start count k n : ℕ) (buffer part t : List ℕ) → (v.limit ≡ 0 → ⊥) → start + count ≤ length buffer → v.position + count ≤ v.limit → k ≡ count → n ≡ count → length part ≡ count
-    → t ≡ ahead m (placed v.state v.position) n → Joined m (placed v.state v.position) 0 n (take k (drop start buffer)) part
-    → Applied m v start count buffer (Ok tt) (record { state = t; position = v.position + count; limit = v.limit }) (put_mid start k buffer part)
-applied m v start count k n buffer part t active within room size whole long ends joined =
-    let at : record { state = t; position = v.position + count; limit = v.limit } ≡ moved v (ahead m v count) (v.position + count) = ap (λ u. moved v u (v.position + count)) (ends ∙ ap (ahead m v) whole) in
-    let here = part_joined m (placed v.state v.position) start count k n buffer part within size whole long joined in
-    let all : Joined m v start count buffer (put_mid start k buffer part) = record { same_length = here.same_length; window = here.window; front = here.front; rest = here.rest } in
-    grind (arith, nat_tests)
 
 -- parts of bytes are bytes
 take_bytes : (n : ℕ) (xs : List ℕ) → Bytes xs → Bytes (take n xs)
@@ -86,7 +76,7 @@ drop_bytes (suc n) (x ∷ xs) h = drop_bytes n xs h.1
 
 module _ (m : Meaning) (s : List ℕ) (p : ℕ) where
   -- so many bytes on, and then as many more
-  pub ahead_on : (a b : ℕ) → ahead m (placed (ahead m (placed s p) a) (p + a)) b ≡ ahead m (placed s p) (a + b)
+  ahead_on : (a b : ℕ) → ahead m (placed (ahead m (placed s p) a) (p + a)) b ≡ ahead m (placed s p) (a + b)
   ahead_on a b =
       let steps : (p + (a + b)) / 4 - p / 4 ≡ ((p + a + b) / 4 - (p + a) / 4) + ((p + a) / 4 - p / 4) = omega arith in
       sym (ap (λ n. times n m.next s) steps ∙ times_add ((p + a + b) / 4 - (p + a) / 4) ((p + a) / 4 - p / 4) m.next s)
@@ -95,7 +85,7 @@ module _ (m : Meaning) (s : List ℕ) (p : ℕ) where
   stream_on a b = ap₂ byte_of (ap m.word (ahead_on a b)) (let same : (p + a + b) % 4 ≡ (p + (a + b)) % 4 = omega arith in same)
 
   -- bytes joined one window behind the other
-  pub joined_on : (start a b : ℕ) (x y z : List ℕ) → Joined m (placed s p) start a x y → Joined m (placed (ahead m (placed s p) a) (p + a)) (start + a) b y z → Joined m (placed s p) start (a + b) x z
+  joined_on : (start a b : ℕ) (x y z : List ℕ) → Joined m (placed s p) start a x y → Joined m (placed (ahead m (placed s p) a) (p + a)) (start + a) b y z → Joined m (placed s p) start (a + b) x z
   joined_on start a b x y z first second =
       record {
         same_length = second.same_length ∙ first.same_length;
@@ -117,7 +107,7 @@ module _ (m : Meaning) (s : List ℕ) (p : ℕ) where
   joined_none start x = record { same_length = refl; window = λ i h. absurd (omega arith); front = λ i h. refl; rest = λ i h. refl }
 
   -- the bytes of the word that a word's beginning has
-  pub word_byte : p % 4 ≡ 0 → (w a : ℕ) → w ≡ m.word s → a < 4 → byte_of w a ≡ stream_byte m (placed s p) a
+  word_byte : p % 4 ≡ 0 → (w a : ℕ) → w ≡ m.word s → a < 4 → byte_of w a ≡ stream_byte m (placed s p) a
   word_byte start w a e h =
       sym (ap₂ byte_of (ap (λ n. m.word (times n m.next s)) (let none : (p + a) / 4 - p / 4 ≡ 0 = omega arith in none) ∙ sym e) (let same : (p + a) % 4 ≡ a = omega arith in same))
 
@@ -133,7 +123,7 @@ module _ (m : Meaning) (s : List ℕ) (p : ℕ) where
       )
 
   -- four bytes with those of a word, by the exclusive or of two words
-  pub four_joined : p % 4 ≡ 0 → (w : ℕ) (xs part : List ℕ) → w ≡ m.word s → w < 2 ^ 32 → length xs ≡ 4 → Bytes xs → part ≡ bytes_of (bit_xor (word (get_or xs 0 0) (get_or xs 1 0) (get_or xs 2 0) (get_or xs 3 0)) w) → Joined m (placed s p) 0 4 xs part
+  four_joined : p % 4 ≡ 0 → (w : ℕ) (xs part : List ℕ) → w ≡ m.word s → w < 2 ^ 32 → length xs ≡ 4 → Bytes xs → part ≡ bytes_of (bit_xor (word (get_or xs 0 0) (get_or xs 1 0) (get_or xs 2 0) (get_or xs 3 0)) w) → Joined m (placed s p) 0 4 xs part
   four_joined start w (x0 ∷ x1 ∷ x2 ∷ x3 ∷ []) part e small len (h0, (h1, (h2, (h3, _)))) is =
       let b0 = byte_below w 0 in
       let b1 = byte_below w 1 in
@@ -180,11 +170,43 @@ module _ (m : Meaning) (s : List ℕ) (p : ℕ) where
       part_joined m (placed s p) at 4 k 4 x part within size refl (ap length written)
       (four_joined start w xs part e small count (take_bytes k (drop at x) (drop_bytes at x bytes)) (written ∙ ap (λ v. bytes_of (bit_xor v w)) same))
 
-  -- a part more of a buffer, behind what is joined
-  pub part_on : (a b c q k n : ℕ) (x y part t t' : List ℕ) → c ≡ a + b → q ≡ p + a → a + b ≤ length y → k ≡ b → n ≡ b → length part ≡ b → t ≡ ahead m (placed s p) a → Joined m (placed s p) 0 a x y
-      → t' ≡ ahead m (placed t q) n → Joined m (placed t q) 0 n (take k (drop a y)) part → (t' ≡ ahead m (placed s p) c) × Joined m (placed s p) 0 c x (put_mid a k y part)
-  part_on a b c q k n x y part t t' sum place within size whole long at done ends joined =
-      let ends' : t' ≡ ahead m (placed (ahead m (placed s p) a) (p + a)) b = ends ∙ ap₂ (λ u r. ahead m (placed u r) n) at place ∙ ap (ahead m (placed (ahead m (placed s p) a) (p + a))) whole in
-      let later = subst (λ r. Joined m (placed (ahead m (placed s p) a) r) (0 + a) b y (put_mid a k y part)) place
-      (subst (λ u. Joined m (placed u q) (0 + a) b y (put_mid a k y part)) at (subst (λ i. Joined m (placed t q) i b y (put_mid a k y part)) (sym (zero-add a)) (part_joined m (placed t q) a b k n y part within size whole long joined))) in
-      subst (λ d. (t' ≡ ahead m (placed s p) d) × Joined m (placed s p) 0 d x (put_mid a k y part)) (sym sum) (ends' ∙ ahead_on a b, joined_on 0 a b x y (put_mid a k y part) done later)
+-- a whole list joined, byte by byte
+whole_at : {m : Meaning} {v : View} {x y t : List ℕ} → JoinedAll m v x y t → (i : ℕ) → i < length x → get_or y i 0 ≡ bit_xor (get_or x i 0) (stream_byte m v i)
+whole_at {m} {v} {x} {y} all i h = subst (λ j. get_or y j 0 ≡ bit_xor (get_or x j 0) (stream_byte m v i)) (zero-add i) (all.joined.window i h)
+
+all_from : {m : Meaning} {v : View} {x y t : List ℕ} → t ≡ ahead m v (length x) → length y ≡ length x → ((i : ℕ) → i < length x → get_or y i 0 ≡ bit_xor (get_or x i 0) (stream_byte m v i)) → JoinedAll m v x y t
+all_from {m} {v} {x} {y} ends long each =
+    record {
+      ends = ends;
+      joined = record {
+        same_length = long;
+        window = λ i h. subst (λ j. get_or y j 0 ≡ bit_xor (get_or x j 0) (stream_byte m v i)) (sym (zero-add i)) (each i h);
+        front = λ i h. absurd (omega arith);
+        rest = λ i h. get_or_past y i 0 (omega arith) ∙ sym (get_or_past x i 0 (omega arith));
+      };
+    }
+
+-- where bytes are joined only the place in a word matters, and none where there are no bytes
+pub at_place : (m : Meaning) (s : List ℕ) (p q : ℕ) {x y t : List ℕ} → (0 < length x → q % 4 ≡ p % 4) → JoinedAll m (placed s q) x y t → JoinedAll m (placed s p) x y t
+at_place m s p q {x} {y} {t} same all =
+    let n = length x in
+    let steps : (i : ℕ) → i ≤ n → (q + i) / 4 - q / 4 ≡ (p + i) / 4 - p / 4 = λ i h. ⊎_elim (λ some. let e = same some in omega arith) (λ none. omega arith) (cases_lt 0 n) in
+    all_from (all.ends ∙ ap (λ k. times k m.next s) (steps n (omega arith))) all.joined.same_length
+    (λ i h. let e = same (omega arith) in whole_at all i h ∙ ap (bit_xor (get_or x i 0)) (ap₂ (λ k j. byte_of (m.word (times k m.next s)) j) (steps i (omega arith)) (omega arith)))
+
+-- bytes joined behind joined bytes
+pub joined_behind : (m : Meaning) (s : List ℕ) (p : ℕ) {x y t x' y' u : List ℕ} → JoinedAll m (placed s p) x y t → JoinedAll m (placed t (p + length x)) x' y' u → JoinedAll m (placed s p) (x ++ x') (y ++ y') u
+joined_behind m s p {x} {y} {t} {x'} {y'} {u} first second =
+    let a = length x in
+    let b = length x' in
+    let sum = length-append x x' in
+    let long : length y ≡ a = first.joined.same_length in
+    let long' : length y' ≡ b = second.joined.same_length in
+    let from : placed t (p + a) ≡ placed (ahead m (placed s p) a) (p + a) = ap (λ v. placed v (p + a)) first.ends in
+    let sooner : (i : ℕ) → i < a → get_or (y ++ y') i 0 ≡ bit_xor (get_or (x ++ x') i 0) (stream_byte m (placed s p) i) =
+    λ i h. get_or_append_left y y' 0 i (omega arith) ∙ whole_at first i h ∙ ap (λ z. bit_xor z (stream_byte m (placed s p) i)) (sym (get_or_append_left x x' 0 i h)) in
+    let later : (i : ℕ) → a ≤ i → i < a + b → get_or (y ++ y') i 0 ≡ bit_xor (get_or (x ++ x') i 0) (stream_byte m (placed s p) i) =
+    λ i past h. get_or-append_right y y' a i 0 long past ∙ whole_at second (i - a) (omega arith)
+    ∙ ap₂ bit_xor (sym (get_or-append_right x x' a i 0 refl past)) (ap (λ v. stream_byte m v (i - a)) from ∙ stream_on m s p a (i - a) ∙ ap (stream_byte m (placed s p)) (omega arith)) in
+    all_from (second.ends ∙ ap (λ v. ahead m v b) from ∙ ahead_on m s p a b ∙ ap (ahead m (placed s p)) (sym sum)) (length-append y y' ∙ ap₂ ◌+◌ long long' ∙ sym sum)
+    (λ i h. ⊎_elim (sooner i) (λ past. later i past (omega arith)) (cases_lt i a))

@@ -28,6 +28,11 @@ pub record Joined (m : Meaning) (v : View) (start count : ℕ) (before after : L
   pub front : (i : ℕ) → i < start → slice_index after i ≡ slice_index before i
   pub rest : (i : ℕ) → start + count ≤ i → slice_index after i ≡ slice_index before i
 
+-- every byte of a list is joined with its keystream byte, and t is the state behind the last
+pub record JoinedAll (m : Meaning) (v : View) (before after t : List ℕ) : Type 0 where
+  pub ends : t ≡ ahead m v (length before)
+  pub joined : Joined m v 0 (length before) before after
+
 -- why keystream is not applied to a window of a buffer of len bytes
 abbrev pub apply_refusal : View → ℕ → ℕ → ℕ → Option Refusal
 apply_refusal v len start count =

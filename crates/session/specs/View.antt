@@ -1,8 +1,8 @@
 -- What a session holds, and the keystream from its position on. Assumes nothing.
-use Rattle.std.specs.Prelude.{ℕ, ◌+◌, ◌-◌, ◌/◌, ◌%◌, List}
+use Rattle.std.specs.Prelude.{ℕ, ◌+◌, ◌-◌, ◌/◌, ◌%◌, List, Some, None, Option}
 use Rattle.words.specs.Words.{byte_of}
 use Rattle.generator.specs.Meaning.{Meaning, times, zeros}
-use Rattle.session.specs.declared.state.Session.{Session}
+use Rattle.session.specs.declared.openings.Opening.{Opening}
 
 -- the generator's state, and the position and the limit in bytes
 pub record View : Type 0 where
@@ -10,8 +10,10 @@ pub record View : Type 0 where
   pub position : ℕ
   pub limit : ℕ
 
-abbrev pub view : {G : Type 0} {g : _} → (G → List ℕ) → Session G g → View
-view state s = record { state = state s.generator; position = s.position; limit = s.limit }
+-- a generator's state and what lasts of an opening, as a view; limit 0 where there is none
+abbrev pub seen : List ℕ → Option Opening → View
+seen state (Some o) = record { state = state; position = o.position; limit = o.limit }
+seen state None = record { state = state; position = 0; limit = 0 }
 
 -- a closed session has zero words, position 0 and limit 0
 abbrev pub shut : Meaning → View

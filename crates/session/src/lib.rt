@@ -3,6 +3,7 @@
 
 mod calls;
 mod join;
+mod openings;
 mod refusals;
 mod state;
 mod steps;

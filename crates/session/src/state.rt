@@ -1,15 +1,23 @@
-ghost use Rattle.std.specs.Prelude.{◌≡◌, ◌^◌, ◌≤◌};
+ghost use Rattle.std.specs.Prelude.{◌≡◌};
 ghost use Rattle.generator.specs.Meaning.{zeros};
 
+use crate::openings::Opening;
 use generator::Generator;
+use std::marker::Model;
 
-// A generator, the position in its keystream and the limit on it, both in bytes. A closed session has limit 0.
+// A generator, and the opening that lasts.
 pub struct Session<G: Generator> {
     pub(crate) generator: G,
-    pub(crate) position: u64,
-    pub(crate) limit: u64,
-    ghost within: { position ≤ limit },
-    ghost bounded: { limit ≤ 2 ^ 52 },
+    pub(crate) opening: Option<Opening>,
+}
+
+// The generator's state, and the position and the limit of the opening.
+impl<G: Generator> Model for Session<G> {
+    ghost use Rattle.session.specs.View.{View, seen};
+
+    ghost Value = { View };
+
+    ghost view = { λ s. seen (G.Generator.state s.generator) s.opening };
 }
 
 impl<G: Generator> Session<G> {
@@ -19,8 +27,7 @@ impl<G: Generator> Session<G> {
     {
         let Session {
             mut generator,
-            position: _,
-            limit: _,
+            opening: _,
         } = self;
         generator.clear();
         generator

@@ -4,7 +4,8 @@ use Rattle.std.proofs.lemmas.List.{append-nil, append_assoc, length-append, leng
 use Rattle.std.proofs.lemmas.Bool.Decides.{nat_tests}
 use Rattle.words.proofs.Words.{word_bytes}
 use Rattle.strips.specs.Orders.{Asked, applying}
-use Rattle.strips.specs.Reading.{part, word_at, order, reads, reads_opening, reads_payload}
+use Rattle.words.specs.Words.{word_at}
+use Rattle.strips.specs.Reading.{part, order, reads, reads_opening, reads_payload}
 use Rattle.strips.specs.Replies.{accepted_reply, refusal_reply}
 use Rattle.strips.specs.ReadBack.{Heading, accepted_kind, refused_at, heading, reply_size, ReadBack, nothing, reply}
 

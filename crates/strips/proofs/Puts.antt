@@ -18,7 +18,7 @@ front_part n xs within =
     (ap (λ k. take k xs) same, ap (λ k. length (take k xs)) same ∙ length-take-le n xs within)
 
 -- what lies behind the bytes written
-pub drop_put : (at : ℕ) (bytes buffer : List ℕ) (k : ℕ) → at ≤ length buffer → drop (at + length bytes + k) (put_at at bytes buffer) ≡ drop (at + length bytes + k) buffer
+drop_put : (at : ℕ) (bytes buffer : List ℕ) (k : ℕ) → at ≤ length buffer → drop (at + length bytes + k) (put_at at bytes buffer) ≡ drop (at + length bytes + k) buffer
 drop_put at bytes buffer k within =
     let n = at + length bytes in
     let front = take at buffer ++ bytes in
@@ -47,10 +47,3 @@ put_behind out bytes before =
     let behind : drop (n + length bytes) (out ++ rest) ≡ drop (length (out ++ bytes)) before =
     sym (drop-drop (length bytes) n (out ++ rest)) ∙ ap (drop (length bytes)) (drop_at out rest n refl) ∙ drop-drop (length bytes) n before ∙ ap (λ k. drop k before) (sym (length-append out bytes)) in
     ap₂ (λ p q. p ++ (bytes ++ q)) front behind ∙ sym (append_assoc out bytes (drop (length (out ++ bytes)) before))
-
--- what is written into a buffer that keeps its length ends within it
-pub put_within : (at : ℕ) (bytes buffer after : List ℕ) → after ≡ put_at at bytes buffer → length after ≡ length buffer → at ≤ length buffer → at + length bytes ≤ length buffer
-put_within at bytes buffer after e same within =
-    let rest = drop (at + length bytes) buffer in
-    let long : length after ≡ length (take at buffer) + length (bytes ++ rest) = ap length e ∙ length-append (take at buffer) (bytes ++ rest) in
-    omega (arith, length-append bytes rest, length-take-le at buffer within)

@@ -12,7 +12,8 @@ use Rattle.strips.specs.declared.stops.Stop.TheVariants.{BadLength, CutShort, Ba
 use Rattle.strips.specs.declared.stops.Report.{Report}
 use Rattle.strips.specs.Stops.{stop_number}
 use Rattle.strips.specs.Orders.{Asked, ending, opening, applying, skipping, going_back, placing, naming, closing, kind}
-use Rattle.strips.specs.Reading.{order, stop, reads, reads_opening, reads_payload, word_at}
+use Rattle.words.specs.Words.{word_at}
+use Rattle.strips.specs.Reading.{order, stop, reads, reads_opening, reads_payload}
 use Rattle.strips.specs.Replies.{refusal_reply}
 use Rattle.strips.specs.Answered.{Answered, ends, opens, applies, skips, steps_back, asks_place, asks_origin, closes}
 use Rattle.strips.specs.Runs.{Finished, reply_to, Progress, start, with_stop, Turn, full, unread, too_long, does, Turns, begun, more, outcome, report_of, Ran, bad_length, StopsAt, RunOf}

@@ -1,7 +1,8 @@
 -- Replies read back from bytes, with no knowledge of the orders. Assumes nothing.
 use Rattle.std.specs.Prelude.{◌≡◌, ℕ, ◌+◌, ◌*◌, ◌/◌, ◌%◌, ◌^◌, cond, List, [], ◌∷◌, ◌++◌, length, Ok, Err, ◌==◌}
 use Rattle.strips.specs.Orders.{kind}
-use Rattle.strips.specs.Reading.{words_for, word_at}
+use Rattle.words.specs.Words.{word_at}
+use Rattle.strips.specs.Reading.{words_for}
 use Rattle.strips.specs.Runs.{Finished}
 
 -- what the first word of a reply says: the kind of the order that was accepted, or the number of the refused order's first word

@@ -1,7 +1,8 @@
 -- How an order is read from a strip, a list of bytes that holds a recorded list of session calls as words. A word's top four bits are its
 -- kind, and its low 28 say more. The tests stand in their order of checking. Assumes nothing.
-use Rattle.std.specs.Prelude.{ℕ, ◌+◌, ◌-◌, ◌*◌, ◌/◌, ◌%◌, ◌^◌, ◌<◌, ◌≤◌, Bool, true, false, cond, ◌&&◌, List, [], ◌∷◌, length, take, drop, Ok, Err, Result, ◌==◌, nat_le, nat_lt, slice_index}
-use Rattle.words.specs.Words.{words_of}
+use Rattle.std.specs.Prelude.{ℕ, ◌+◌, ◌-◌, ◌*◌, ◌/◌, ◌%◌, ◌^◌, ◌<◌, ◌≤◌, Bool, cond, ◌&&◌, List, length, take, drop, Ok, Err, Result, ◌==◌, nat_le, nat_lt}
+use Rattle.std.specs.List.{list_all}
+use Rattle.words.specs.Words.{word_at}
 use Rattle.strips.specs.declared.orders.Order.{Order}
 use Rattle.strips.specs.declared.stops.Stop.{Stop}
 use Rattle.strips.specs.declared.stops.Stop.TheVariants.{CutShort, BadWord}
@@ -16,15 +17,11 @@ abbrev pub part : List ℕ → ℕ → ℕ → List ℕ
 part strip i n = take n (drop (4 * i) strip)
 
 abbrev pub all_zero : List ℕ → Bool
-all_zero [] = true
-all_zero (b ∷ bs) = cond (b == 0) (all_zero bs) false
+all_zero bytes = list_all (λ b. b == 0) bytes
 
 -- what fills that part to whole words is zeros
 unfoldable pub filled : List ℕ → ℕ → ℕ → Bool
 filled strip i n = all_zero (take (4 * words_for n - n) (drop (4 * i + n) strip))
-
-unfoldable pub word_at : List ℕ → ℕ → ℕ
-word_at strip i = slice_index (words_of strip) i
 
 -- an order with its size in words, or why none is read
 pub data Reading : Type 0 where

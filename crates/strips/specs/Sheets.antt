@@ -8,7 +8,7 @@ use Rattle.layers.specs.Pair.{pair}
 use Rattle.layers.specs.EveryOther.{every_other}
 use Rattle.strips.specs.declared.stops.Stop.TheVariants.{BadLength, CutShort, NoRoom, UnknownGenerator}
 use Rattle.strips.specs.declared.stops.Report.{Report}
-use Rattle.strips.specs.Reading.{word_at}
+use Rattle.words.specs.Words.{word_at}
 use Rattle.strips.specs.Runs.{start, report_of, bad_length, StopsAt, RunOf}
 
 -- the generator that a word names

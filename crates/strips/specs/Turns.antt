@@ -1,42 +1,68 @@
 -- What the code of a run holds from turn to turn. Assumes nothing.
-use Rattle.std.specs.Prelude.{◌≡◌, ℕ, ◌+◌, ◌*◌, ◌<◌, ◌≤◌, Bool, List, ◌++◌, length, drop, None, Ok, Err, Result}
+use Rattle.std.specs.Prelude.{◌≡◌, ℕ, ◌+◌, ◌*◌, ◌<◌, ◌≤◌, Bool, List, ◌++◌, length, drop, Ok, Err, Option, Result}
 use Rattle.generator.specs.Meaning.{Meaning}
 use Rattle.session.specs.declared.refusals.Refusal.{Refusal}
-use Rattle.session.specs.View.{View}
+use Rattle.session.specs.View.{View, shut}
 use Rattle.strips.specs.declared.cursor.Cursor.{Cursor}
+use Rattle.strips.specs.declared.orders.Order.{Order}
+use Rattle.strips.specs.declared.replies.Replies.{Replies}
 use Rattle.strips.specs.declared.stops.Stop.{Stop}
-use Rattle.strips.specs.declared.stops.Report.{Report}
-use Rattle.strips.specs.Cursors.{Steady}
+use Rattle.strips.specs.Orders.{asked}
 use Rattle.strips.specs.Reading.{words_for}
-use Rattle.strips.specs.Runs.{Progress, Turn}
+use Rattle.strips.specs.Replies.{put_at}
+use Rattle.strips.specs.Runs.{Progress, is_end, Turn, Turns, outcome}
 
--- a report and the replies of a run that has come so far and has not stopped; behind what is written the replies are as they were before
-pub record Holds (p : Progress) (before : List ℕ) (r : Report) (replies : List ℕ) : Type 0 where
-  pub stopped : r.stopped ≡ None
-  pub words : r.words ≡ p.words
-  pub bytes : r.bytes ≡ length p.out
-  pub refused : r.refused ≡ p.refused
-  pub buffer : replies ≡ p.out ++ drop (length p.out) before
+-- the same buffer, as long as it was
+abbrev pub SameBuffer : Replies → Replies → Type 0
+SameBuffer r s = (s.buffer.ghost_name ≡ r.buffer.ghost_name) × (length s.buffer.now ≡ length r.buffer.now)
 
--- a turn from p on, and what the report and the replies then hold
-pub record Turned (m : Meaning) (strip : List ℕ) (p : Progress) (before : List ℕ) (v : View) (room : ℕ) (answer : Result Bool Stop) (r : Report) (replies : List ℕ) (w : View) : Type 0 where
-  pub next : Progress
-  pub turn : Turn m strip room p v answer next w
-  pub holds : Holds next before r replies
-
--- a cursor and a report between two turns
-pub record Between (c : Cursor) (r : Report) (room : ℕ) : Type 0 where
-  pub steady : Steady c
-  pub words : r.words ≡ c.place
-  pub refused : r.refused ≤ r.words
-  pub bytes : r.bytes ≤ room
-
--- where an order was finished, the cursor is behind it
-abbrev pub Onward : Cursor → Result Bool Stop → Cursor → Report → ℕ → Type 0
-Onward c (Ok end) d r room = Between d r room × (d.strip ≡ c.strip) × (c.place < d.place)
-Onward c (Err s) d r room = Unit {0}
+-- some bytes more are written, into the same buffer
+pub record Wrote (r : Replies) (bytes : List ℕ) (s : Replies) : Type 0 where
+  pub same_buffer : SameBuffer r s
+  pub buffer : s.buffer.now ≡ put_at r.written bytes r.buffer.now
+  pub written : s.written ≡ r.written + length bytes
 
 -- the reply to an order has room
 abbrev pub HasRoom : ℕ → ℕ → Result ℕ Refusal → ℕ → Type 0
 HasRoom room at (Ok n) scratch = (n ≤ 64000) × (n ≤ scratch) × (at + 4 + 4 * words_for n ≤ room)
 HasRoom room at (Err e) scratch = at + 4 ≤ room
+
+-- a cursor and the replies of a run that has come so far; behind what is written the buffer is as it was before
+pub record Holds (p : Progress) (before : List ℕ) (c : Cursor) (r : Replies) : Type 0 where
+  pub words : c.place ≡ p.words
+  pub refused : c.refused ≡ p.refused
+  pub written : r.written ≡ length p.out
+  pub buffer : r.buffer.now ≡ p.out ++ drop (length p.out) before
+
+-- whether the order that a turn answers is the end
+abbrev pub last_of : Result Order Stop → Result Bool Stop
+last_of (Ok o) = Ok (is_end (asked o))
+last_of (Err s) = Err s
+
+-- a turn from p on, and what the cursor and the replies then hold
+pub record Turned (m : Meaning) (p : Progress) (before : List ℕ) (c : Cursor) (v : View) (room : ℕ) (answer : Result Order Stop) (d : Cursor) (r : Replies) (w : View) : Type 0 where
+  pub next : Progress
+  pub turn : Turn m c.strip.bytes.now room p v (last_of answer) next w
+  pub holds : Holds next before d r
+
+-- where an order was finished, the cursor is behind it
+abbrev pub Onward : Cursor → Result Order Stop → Cursor → Type 0
+Onward c (Ok o) d = (d.strip ≡ c.strip) × (c.place < d.place)
+Onward c (Err s) d = d ≡ c
+
+-- a run before its first turn
+pub record Begins (m : Meaning) (c : Cursor) (r : Replies) (v : View) : Type 0 where
+  pub place : c.place ≡ 0
+  pub refused : c.refused ≡ 0
+  pub written : r.written ≡ 0
+  pub closed : v ≡ shut m
+
+-- the turns up to the end or to a stop, and what the cursor and the replies then hold
+pub record Went (m : Meaning) (c : Cursor) (before : List ℕ) (stopped : Option Stop) (d : Cursor) (r : Replies) : Type 0 where
+  pub progress : Progress
+  pub view : View
+  pub turns : Turns m c.strip.bytes.now (length before) progress view
+  pub end : Progress
+  pub end_view : View
+  pub last : Turn m c.strip.bytes.now (length before) progress view (outcome stopped) end end_view
+  pub holds : Holds end before d r

@@ -1,15 +1,15 @@
 // Orders put to a session.
 ghost use Rattle.std.specs.Prelude.{◌≡◌, ◌+◌, ◌-◌, ◌≤◌, ◌∷◌, ◌++◌, length, take};
-ghost use Rattle.session.specs.View.{view};
 ghost use Rattle.strips.specs.Orders.{asked, opening, applying, placing, naming};
 ghost use Rattle.strips.specs.Reading.{Small};
 ghost use Rattle.strips.specs.Answered.{Answered, in_buffer, Sized};
 ghost use Rattle.strips.specs.Replies.{reply_room};
 
-use crate::bytes::{are_bytes, put};
+use crate::bytes::put;
 use crate::orders::Order;
 use generator::Generator;
 use session::{Refusal, Session};
+use words::are_bytes;
 
 // The longest key or IV.
 const LONGEST: usize = 255;
@@ -23,7 +23,7 @@ fn answer_opening<G: Generator>(
     reply: &mut [u8],
 ) -> Result<usize, Refusal>
     requires { length key.now ≤ length reply.old }
-    ensures answered { Answered G.Generator.meaning (view G.Generator.state session.old) (opening key.now iv.now limit) (in_buffer result reply.new) (view G.Generator.state session.new) }
+    ensures answered { Answered G.Generator.meaning session.old (opening key.now iv.now limit) (in_buffer result reply.new) session.new }
     ensures sized { Sized 0 result }
 {
     are_bytes(key);
@@ -41,7 +41,7 @@ fn answer_payload<G: Generator>(
     reply: &mut [u8],
 ) -> Result<usize, Refusal>
     requires { length payload.now ≤ length reply.old }
-    ensures answered { Answered G.Generator.meaning (view G.Generator.state session.old) (applying payload.now) (in_buffer result reply.new) (view G.Generator.state session.new) }
+    ensures answered { Answered G.Generator.meaning session.old (applying payload.now) (in_buffer result reply.new) session.new }
     ensures sized { Sized (length payload.now) result }
 {
     let count = payload.len();
@@ -53,7 +53,7 @@ fn answer_payload<G: Generator>(
 
 fn answer_position<G: Generator>(session: &Session<G>, reply: &mut [u8]) -> Result<usize, Refusal>
     requires { 8 ≤ length reply.old }
-    ensures answered { Answered G.Generator.meaning (view G.Generator.state session.now) placing (in_buffer result reply.new) (view G.Generator.state session.now) }
+    ensures answered { Answered G.Generator.meaning session.now placing (in_buffer result reply.new) session.now }
     ensures sized { Sized 8 result }
 {
     let position = session.position()?;
@@ -75,7 +75,7 @@ fn put_names(reply: &mut [u8], key: &[u8], iv: &[u8]) -> usize
 
 fn answer_origin<G: Generator>(session: &mut Session<G>, reply: &mut [u8]) -> Result<usize, Refusal>
     requires { 512 ≤ length reply.old }
-    ensures answered { Answered G.Generator.meaning (view G.Generator.state session.old) naming (in_buffer result reply.new) (view G.Generator.state session.new) }
+    ensures answered { Answered G.Generator.meaning session.old naming (in_buffer result reply.new) session.new }
     ensures sized { Sized 512 result }
 {
     let mut key = [0; LONGEST];
@@ -91,7 +91,7 @@ pub(crate) fn answer<G: Generator>(
     reply: &mut [u8],
 ) -> Result<usize, Refusal>
     requires { (512 ≤ length reply.old) × (Small (length reply.old) (asked order)) }
-    ensures answered { Answered G.Generator.meaning (view G.Generator.state session.old) (asked order.entry) (in_buffer result reply.new) (view G.Generator.state session.new) }
+    ensures answered { Answered G.Generator.meaning session.old (asked order.entry) (in_buffer result reply.new) session.new }
     ensures sized { Sized (reply_room (asked order.entry) - 4) result }
 {
     match order {

@@ -9,6 +9,7 @@ mod replies;
 mod runs;
 mod sheets;
 mod stops;
+mod strip;
 
 pub use runs::run;
 pub use sheets::answer_sheet;

@@ -1,9 +1,10 @@
 // The orders of a strip.
 ghost use Rattle.std.specs.Prelude.{◌≡◌};
 ghost use Rattle.strips.specs.Orders.{asked, kind};
-ghost use Rattle.strips.specs.Reading.{Small};
 ghost use Rattle.strips.specs.Replies.{reply_room};
 ghost use Rattle.strips.specs.Runs.{is_end};
+
+use crate::strip::words_for;
 
 // An order of a strip: a call of a session, or the strip's end. Keys, IVs and payloads are parts of the strip.
 #[derive(Clone, Copy)]
@@ -42,11 +43,10 @@ impl Order<'_> {
 
     // The most bytes that the reply takes where the order is accepted.
     pub(crate) fn reply_room(self) -> usize
-        requires { Small 64000 (asked self) }
         ensures { result ≡ reply_room (asked self.entry) }
     {
         match self {
-            Order::Apply(payload) => 4 + 4 * ((payload.len() + 3) / 4),
+            Order::Apply(payload) => 4 + 4 * words_for(payload.len()),
             Order::Position => 12,
             Order::Origin => 516,
             _ => 4,

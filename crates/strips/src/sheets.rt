@@ -1,9 +1,9 @@
 // Sheets: a generator and a strip to run over it.
 ghost use Rattle.strips.specs.Sheets.{SheetOf};
 
-use crate::bytes::read_word;
-use crate::runs::{is_bad_length, refuse, run};
+use crate::runs::{refuse, run};
 use crate::stops::{Report, Stop};
+use crate::strip::Strip;
 use layers::{EveryOther, Pair};
 use snow::{Register, Snow2, Snow3g};
 
@@ -14,14 +14,15 @@ pub fn answer_sheet(input: &[u8], replies: &mut [u8]) -> Report
     if replies.len() < 4 {
         return Report::without_room();
     }
-    if is_bad_length(input) {
-        return refuse(Stop::BadLength, replies);
-    }
+    let sheet = match Strip::new(input) {
+        Ok(sheet) => sheet,
+        Err(stop) => return refuse(stop, replies),
+    };
     if input.is_empty() {
         return refuse(Stop::CutShort, replies);
     }
     let strip = &input[4..];
-    match read_word(input, 0) {
+    match sheet.word(0) {
         0x9000_0000 => run(Snow2::new(), strip, replies),
         0x9000_0001 => run(Snow3g::new(), strip, replies),
         0x9000_0002 => run(Register::new(), strip, replies),

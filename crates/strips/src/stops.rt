@@ -35,7 +35,7 @@ impl Stop {
 }
 
 // What a run came to.
-#[derive(Clone, Copy, PartialEq, Eq, Debug)]
+#[derive(Clone, Copy, Default, PartialEq, Eq, Debug)]
 pub struct Report {
     // why the run stopped; none where it came to its end
     pub stopped: Option<Stop>,
@@ -54,9 +54,7 @@ impl Report {
     {
         Report {
             stopped: Some(Stop::NoRoom),
-            words: 0,
-            bytes: 0,
-            refused: 0,
+            ..Report::default()
         }
     }
 
@@ -64,9 +62,6 @@ impl Report {
     pub fn number(&self) -> u8
         ensures { result ≡ outcome_number self.now.stopped }
     {
-        match self.stopped {
-            Some(stop) => stop.number(),
-            None => 0,
-        }
+        self.stopped.map_or(0, Stop::number)
     }
 }

@@ -2,7 +2,6 @@ use Rattle.std.proofs.Common.{◌≡◌, replicate, vec_items, sym, refl, ◌∙
 use Rattle.std.specs.Vec.{with_items}
 use Rattle.std.proofs.lemmas.List.{with_items_is}
 use Rattle.std.proofs.lemmas.Result.{MatchResult-from_err}
-use Rattle.session.specs.View.{view}
 use Rattle.session.specs.Calls.{Opened, Applied}
 use Rattle.history.specs.declared.requests.Request.TheVariants.{Origin}
 use Rattle.history.specs.declared.requests.Answer.TheVariants.{Names}
@@ -16,8 +15,8 @@ returns-in_err-iv-in-Origin g c = MatchResult-from_err c.from_residual-in_err-iv
 pub returns-in_ok-copy-in-Open : goal.returns-in_ok-copy-in-Open
 returns-in_ok-copy-in-Open g c =
     let m = g.G.Generator.meaning in
-    let v = view g.G.Generator.state c.args.session.now in
-    let w = view g.G.Generator.state c.open.new.self in
+    let v = c.args.session.now in
+    let w = c.open.new.self in
     let iv = c.in-Open.iv in
     let limit = c.in-Open.limit in
     let r = c.open.result in
@@ -32,8 +31,8 @@ returns-in-ApplyToMessage g c =
 pub returns-in_ok-copy-in-ApplyElsewhere : goal.returns-in_ok-copy-in-ApplyElsewhere
 returns-in_ok-copy-in-ApplyElsewhere g c =
     let m = g.G.Generator.meaning in
-    let v = view g.G.Generator.state c.args.session.now in
-    let w = view g.G.Generator.state c.apply_keystream-done.new.self in
+    let v = c.args.session.now in
+    let w = c.apply_keystream-done.new.self in
     let bytes = c.in-ApplyElsewhere.bytes in
     let start = c.in-ApplyElsewhere.start in
     let count = c.in-ApplyElsewhere.count in
@@ -58,7 +57,7 @@ returns-in-Position g c = as_asked c.in-Position.is (asks_place c.position.resul
 pub returns-in_ok-iv-in-Origin : goal.returns-in_ok-iv-in-Origin
 returns-in_ok-iv-in-Origin g c =
     let m = g.G.Generator.meaning in
-    let v = view g.G.Generator.state c.args.session.now in
+    let v = c.args.session.now in
     let key = c.in_ok-key-in-Origin.key in
     let iv = c.in_ok-iv-in-Origin.iv in
     let r = c.origin-named.result in

@@ -1,9 +1,9 @@
-use Rattle.std.proofs.Common.{◌≡◌, ◌%◌, sym, ap, ◌∙◌, arith}
+use Rattle.std.proofs.Common.{◌≡◌, sym, ap, ◌∙◌, ap₂, arith}
 use Rattle.words.specs.Words.{byte_of}
-use Rattle.session.specs.View.{placed, ahead, stream_byte}
+use Rattle.session.specs.View.{placed, stream_byte}
 use Rattle.session.proofs.Joins.{ahead_word, ahead_same, joins_more, leaves_more}
 use Rattle.session.proofs.join.join_bytes.Goals as goal
-use Rattle.session.proofs.join.join_bytes.Goals.{then-position-eq0, else-position-eq0}
+use Rattle.session.proofs.join.join_bytes.Goals.{then-place-eq4, else-place-eq4}
 
 pub loop-byte-preserved : goal.loop-byte-preserved
 loop-byte-preserved g c =
@@ -12,15 +12,15 @@ loop-byte-preserved g c =
     let from = c.args.from in
     let i = c.loop-byte.byte-index in
     let inv = c.loop-byte.invariant in
-    let byte : c.byte_at.result ≡ stream_byte m (placed s from) i = c.byte_at.ensures ∙ ap (λ w. byte_of w (c.loop-byte.position % 4)) (inv.2 ∙ ap m.word inv.1) ∙ ap (λ p. byte_of (m.word (ahead m (placed s from) i)) (p % 4)) inv.0 in
+    let byte : c.byte_at.result ≡ stream_byte m (placed s from) i = c.byte_at.ensures ∙ ap₂ byte_of (inv.2 ∙ ap m.word inv.1) (omega arith) in
     let done = joins_more m s from i c.args.bytes.now c.loop-byte.bytes c.byte_at.result (omega arith) byte inv.3 inv.4 in
     let left = leaves_more i c.args.bytes.now c.loop-byte.bytes _ inv.4 in
     let state = g.G.Generator.state in
-    elim c.if-position-eq0.branch [
-      | then-position-eq0 w ↦
-          let at : state c.if-position-eq0.generator ≡ state w.forward.new.self = ap state w.generator-is ∙ w.word-word-then-position-eq0.ensures.same in
-          (omega arith, at ∙ w.forward.ensures ∙ ap m.next inv.1 ∙ sym (ahead_word m s from i (omega arith)), w.word-is ∙ w.word-word-then-position-eq0.ensures.value ∙ ap m.word (sym at), done, left)
-      | else-position-eq0 w ↦
-          let at : state c.if-position-eq0.generator ≡ state c.loop-byte.generator = ap state w.generator-is in
-          (omega arith, at ∙ inv.1 ∙ sym (ahead_same m s from i (λ e. w.if-position-eq0.false (omega arith))), w.word-is ∙ inv.2 ∙ ap m.word (sym at), done, left)
+    elim c.if-place-eq4.branch [
+      | then-place-eq4 w ↦
+          let at : state c.if-place-eq4.generator ≡ state w.forward.new.self = ap state w.generator-is ∙ w.word-word-then-place-eq4.ensures.same in
+          (w.place-is ∙ omega arith, at ∙ w.forward.ensures ∙ ap m.next inv.1 ∙ sym (ahead_word m s from i (omega arith)), w.word-is ∙ w.word-word-then-place-eq4.ensures.value ∙ ap m.word (sym at), done, left)
+      | else-place-eq4 w ↦
+          let at : state c.if-place-eq4.generator ≡ state c.loop-byte.generator = ap state w.generator-is in
+          (w.place-is ∙ omega arith, at ∙ inv.1 ∙ sym (ahead_same m s from i (λ e. w.if-place-eq4.false (omega arith))), w.word-is ∙ inv.2 ∙ ap m.word (sym at), done, left)
     ]

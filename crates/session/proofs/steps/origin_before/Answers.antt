@@ -14,6 +14,6 @@ returns g c =
     record {
       named =
           named_from lawful words s c.args.key.now c.args.iv.now c.origin-answer.result c.origin-answer.new.key c.origin-answer.new.iv valid
-          (subst (λ t. Named m 0 t c.args.key.now c.args.iv.now c.origin-answer.result c.origin-answer.new.key c.origin-answer.new.iv) c.retreat.ensures c.origin-answer.ensures.named);
-      same = c.advance.ensures ∙ ap (times words m.next) (c.origin-answer.ensures.same ∙ c.retreat.ensures) ∙ next_again lawful words valid;
+          (subst (λ t. Named m 0 t c.args.key.now c.args.iv.now c.origin-answer.result c.origin-answer.new.key c.origin-answer.new.iv) c.backward_by.ensures c.origin-answer.ensures.named);
+      same = c.forward_by.ensures ∙ ap (times words m.next) (c.origin-answer.ensures.same ∙ c.backward_by.ensures) ∙ next_again lawful words valid;
     }

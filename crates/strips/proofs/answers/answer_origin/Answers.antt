@@ -1,40 +1,36 @@
 use Rattle.std.proofs.Common.{◌≡◌, ℕ, ◌-◌, List, ◌∷◌, ◌++◌, take, replicate, Ok, Err, sym, ◌∙◌, subst, ap₂, arith}
-use Rattle.session.specs.View.{view}
 use Rattle.strips.specs.Orders.{naming}
 use Rattle.strips.specs.Answered.{Answered, asks_origin}
 use Rattle.strips.proofs.Puts.{front_part}
-use Rattle.strips.proofs.Answering.{refused, refused_sized, origin_short, same_session}
+use Rattle.strips.proofs.Answering.{refused, origin_short, same_session}
 use Rattle.strips.proofs.answers.answer_origin.Goals as goal
 
-pub returns-in_err-key_len : goal.returns-in_err-key_len
-returns-in_err-key_len g c =
+pub returns-in_err-key_len-clause-answered : goal.returns-in_err-key_len-clause-answered
+returns-in_err-key_len-clause-answered g c =
     let e = c.in_err-key_len.field-0.0 in
-    record {
-      answered = refused c.from_residual.result _ e c.from_residual.ensures.1 (same_session c.origin.ensures.same (asks_origin (Err e) c.origin.new.key c.origin.new.iv c.in_err-key_len.ensures.named));
-      sized = refused_sized 512 c.from_residual.result c.from_residual.ensures.0;
-    }
+    refused c.from_residual.result _ e c.from_residual.ensures.1 (same_session c.origin.ensures.same (asks_origin (Err e) c.origin.new.key c.origin.new.iv c.in_err-key_len.ensures.named))
 
 pub slice_bounds-put_names-end : goal.slice_bounds-put_names-end
 slice_bounds-put_names-end g c =
-    let v = view g.G.Generator.state c.args.session.now in
+    let v = c.args.session.now in
     (origin_short g.G.Generator.meaning v (replicate 255 0) (replicate 255 0) (c.in_ok-key_len.key_len, c.in_ok-key_len.iv_len) c.origin.new.key c.origin.new.iv c.in_ok-key_len.ensures.named).0
 
 pub slice_bounds-put_names-end-2 : goal.slice_bounds-put_names-end-2
 slice_bounds-put_names-end-2 g c =
-    let v = view g.G.Generator.state c.args.session.now in
+    let v = c.args.session.now in
     (origin_short g.G.Generator.meaning v (replicate 255 0) (replicate 255 0) (c.in_ok-key_len.key_len, c.in_ok-key_len.iv_len) c.origin.new.key c.origin.new.iv c.in_ok-key_len.ensures.named).1
 
 pub put_names-requires : goal.put_names-requires
 put_names-requires g c =
-    let v = view g.G.Generator.state c.args.session.now in
+    let v = c.args.session.now in
     let short = origin_short g.G.Generator.meaning v (replicate 255 0) (replicate 255 0) (c.in_ok-key_len.key_len, c.in_ok-key_len.iv_len) c.origin.new.key c.origin.new.iv c.in_ok-key_len.ensures.named in
     let key = (front_part c.in_ok-key_len.key_len c.origin.new.key short.0).1 in
     let iv = (front_part c.in_ok-key_len.iv_len c.origin.new.iv short.1).1 in
     (omega arith, (omega (arith, c.origin.auto.key), omega (arith, c.origin.auto.iv)))
 
-pub returns : goal.returns
-returns g c =
-    let v = view g.G.Generator.state c.args.session.now in
+pub returns-clause-answered : goal.returns-clause-answered
+returns-clause-answered g c =
+    let v = c.args.session.now in
     let m = g.G.Generator.meaning in
     let k = c.in_ok-key_len.key_len in
     let i = c.in_ok-key_len.iv_len in
@@ -46,7 +42,4 @@ returns g c =
     let same : take c.put_names.result c.put_names.new.reply ≡ k ∷ i ∷ (take k key ++ take i iv) = c.put_names.ensures.names ∙ ap₂ (λ (x y : ℕ). x ∷ y ∷ (take (k - 0) key ++ take (i - 0) iv)) kp.1 ip.1 ∙ ap₂ (λ (x y : List ℕ). k ∷ i ∷ (x ++ y)) kp.0 ip.0 in
     let ks = c.origin.auto.key in
     let is = c.origin.auto.iv in
-    record {
-      answered = subst (λ bs. Answered m v naming (Ok bs) (view g.G.Generator.state c.origin.new.self)) (sym same) (same_session c.origin.ensures.same (asks_origin (Ok (k, i)) key iv c.in_ok-key_len.ensures.named));
-      sized = omega (arith, c.put_names.ensures.size);
-    }
+    subst (λ bs. Answered m v naming (Ok bs) c.origin.new.self) (sym same) (same_session c.origin.ensures.same (asks_origin (Ok (k, i)) key iv c.in_ok-key_len.ensures.named))
