@@ -17,6 +17,8 @@ use Rattle.snow.specs.Labels.{label_number, Labelled}
 use Rattle.strips.specs.declared.stops.Report.{Report}
 use Rattle.strips.specs.Stops.{outcome_number}
 use Rattle.strips.specs.Sheets.{generator_of, SheetOf}
+use Rattle.exports.specs.Faults.{unknown, call_number}
+use Rattle.exports.specs.declared.faults.CallFault.{CallFault}
 use Rattle.exports.specs.declared.answers.SheetReport.{SheetReport}
 use Rattle.exports.specs.declared.answers.Outcome.{Outcome}
 use Rattle.exports.specs.declared.answers.Names.{Names}
@@ -25,10 +27,6 @@ use Rattle.exports.specs.declared.answers.LabelPart.{LabelPart}
 -- the generator of a number, as the first word of a sheet names it
 abbrev pub generator_number : ℕ → Option Meaning
 generator_number n = generator_of (0x90000000 + n)
-
--- no generator has this number
-abbrev pub unknown : ℕ
-unknown = 18
 
 -- a report by numbers
 abbrev pub report_numbers : Report → SheetReport
@@ -64,6 +62,11 @@ abbrev pub names_of : Result (ℕ × ℕ) TraceFault → Names
 names_of (Ok lengths) = record { number = 0; key = lengths.0; iv = lengths.1 }
 names_of (Err e) = no_names (trace_number e)
 
+-- the same, where the state may be refused too
+abbrev pub answer_names : Result (ℕ × ℕ) CallFault → Names
+answer_names (Ok lengths) = record { number = 0; key = lengths.0; iv = lengths.1 }
+answer_names (Err e) = no_names (call_number e)
+
 -- a trace from a state
 abbrev pub NamesOf : Meaning → List ℕ → ℕ → List ℕ → List ℕ → Names → List ℕ → List ℕ → Type 0
 NamesOf m state n key iv names key_after iv_after = (a : Result (ℕ × ℕ) TraceFault) × (names ≡ names_of a) × Traced m n state key iv a key_after iv_after
@@ -91,6 +94,11 @@ pub record Stream (m : Meaning) (state before after : List ℕ) : Type 0 where
 abbrev pub StreamedFrom : Meaning → List ℕ → ℕ → List ℕ → ℕ → List ℕ → Type 0
 StreamedFrom m state back before r after =
     cond (length state == m.size) ((r ≡ 0) × Stream m (times back m.back state) before after) ((r ≡ 12) × (after ≡ before))
+
+-- the number of an answer without a value
+abbrev pub words_number : Result Unit CallFault → ℕ
+words_number (Ok tt) = 0
+words_number (Err e) = call_number e
 
 abbrev pub StreamedBy : ℕ → List ℕ → ℕ → List ℕ → ℕ → List ℕ → Type 0
 StreamedBy g state back before r after =

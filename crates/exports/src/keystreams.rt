@@ -1,8 +1,9 @@
 // Keystream through a session.
 ghost use Rattle.std.specs.Prelude.{◌≡◌, length, replicate};
-ghost use Rattle.exports.specs.Answers.{outcome_of, Sent, SentBy};
+ghost use Rattle.exports.specs.Answers.{Sent, SentBy};
 
-use crate::answers::{Outcome, UNKNOWN};
+use crate::answers::Outcome;
+use crate::faults::CallFault;
 use generator::Generator;
 use layers::{EveryOther, Pair};
 use session::{Refusal, Session};
@@ -18,21 +19,6 @@ struct Task<'a> {
     count: usize,
 }
 
-fn outcome_of(answer: Result<(), Refusal>) -> Outcome
-    ensures { result ≡ outcome_of answer }
-{
-    match answer {
-        Ok(()) => Outcome {
-            number: 0,
-            member: 0,
-        },
-        Err(refusal) => Outcome {
-            number: u64::from(refusal.number()),
-            member: u64::from(refusal.member()),
-        },
-    }
-}
-
 // Opens a session, skips, and applies keystream.
 fn send<G: Generator + Drop>(
     generator: G,
@@ -40,7 +26,7 @@ fn send<G: Generator + Drop>(
     task: Task<'_>,
     buffer: &mut [u8],
 ) -> Result<(), Refusal>
-    ensures sent { Sent G.Generator.meaning key.old task.entry.iv.now task.entry.limit task.entry.skipped task.entry.start task.entry.count buffer.old result buffer.new }
+    ensures sent { Sent G.meaning key.old task.entry.iv.now task.entry.limit task.entry.skipped task.entry.start task.entry.count buffer.old result buffer.new }
     ensures wiped { key.new ≡ replicate (length key.old) 0 }
 {
     let mut session = Session::new(generator);
@@ -81,11 +67,11 @@ pub extern "C" fn jorumdell_keystream(
         _ => {
             key.fill(0);
             *outcome = Outcome {
-                number: UNKNOWN,
+                number: CallFault::UnknownGenerator.number(),
                 member: 0,
             };
             return;
         }
     };
-    *outcome = outcome_of(answer);
+    *outcome = Outcome::from(answer);
 }

@@ -3,6 +3,7 @@
 
 mod answers;
 mod boxes;
+mod faults;
 mod filled;
 mod keystreams;
 mod labels;

@@ -9,11 +9,5 @@ use strips::answer_sheet;
 pub extern "C" fn jorumdell_sheet(input: &[u8], replies: &mut [u8], report: &mut SheetReport)
     ensures { SheetBy input.now replies.old report.new replies.new }
 {
-    let answer = answer_sheet(input, replies);
-    *report = SheetReport {
-        number: u64::from(answer.number()),
-        words: answer.words as u64,
-        bytes: answer.bytes as u64,
-        refused: answer.refused as u64,
-    };
+    *report = SheetReport::from(answer_sheet(input, replies));
 }

@@ -1,44 +1,24 @@
 // Traces from given states.
-ghost use Rattle.std.specs.Prelude.{◌≡◌, MatchResult};
-ghost use Rattle.exports.specs.Answers.{no_names, NamesOf, TracedBy};
+ghost use Rattle.exports.specs.Answers.{answer_names, TracedFrom, TracedBy};
 
-use crate::answers::{Names, UNKNOWN};
-use crate::filled::{every_other_of, pair_of, register_of, snow2_of, snow3g_of};
-use generator::Generator;
+use crate::answers::Names;
+use crate::faults::CallFault;
+use crate::filled::Filled;
+use layers::{EveryOther, Pair};
 use session::trace;
-use snow::FillFault;
+use snow::{Register, Snow2, Snow3g};
 
-fn refused(number: u64) -> Names
-    ensures { result ≡ no_names number }
-{
-    Names {
-        number,
-        key: 0,
-        iv: 0,
-    }
-}
-
-// Traces from the state of a filled generator.
-fn trace_filled<G: Generator + Drop>(
-    filled: Result<G, FillFault>,
+// Traces from a state.
+fn trace_from<G: Filled>(
+    state: &[u32],
     n: u64,
     key: &mut [u8],
     iv: &mut [u8],
-) -> Names
-    ensures { MatchResult filled (λ g. NamesOf G.Generator.meaning (G.Generator.state g) n key.old iv.old result key.new iv.new) (λ _. (result ≡ no_names 12) × (key.new ≡ key.old) × (iv.new ≡ iv.old)) }
+) -> Result<(usize, usize), CallFault>
+    ensures { TracedFrom G.Generator.meaning state.now n key.old iv.old (answer_names result) key.new iv.new }
 {
-    let mut generator = match filled {
-        Ok(generator) => generator,
-        Err(fault) => return refused(u64::from(fault.number())),
-    };
-    match trace(&mut generator, n, key, iv) {
-        Ok((key_len, iv_len)) => Names {
-            number: 0,
-            key: key_len as u64,
-            iv: iv_len as u64,
-        },
-        Err(fault) => refused(u64::from(fault.number())),
-    }
+    let mut generator = G::filled(state)?;
+    Ok(trace(&mut generator, n, key, iv)?)
 }
 
 // The key and the IV that reach a given state of a generator in n words.
@@ -53,12 +33,13 @@ pub extern "C" fn jorumdell_trace(
 )
     ensures { TracedBy generator state.now n key.old iv.old names.new key.new iv.new }
 {
-    *names = match generator {
-        0 => trace_filled(snow2_of(state), n, key, iv),
-        1 => trace_filled(snow3g_of(state), n, key, iv),
-        2 => trace_filled(register_of(state), n, key, iv),
-        3 => trace_filled(pair_of(state), n, key, iv),
-        4 => trace_filled(every_other_of(state), n, key, iv),
-        _ => refused(UNKNOWN),
+    let traced = match generator {
+        0 => trace_from::<Snow2>(state, n, key, iv),
+        1 => trace_from::<Snow3g>(state, n, key, iv),
+        2 => trace_from::<Register>(state, n, key, iv),
+        3 => trace_from::<Pair<Snow2, Snow3g>>(state, n, key, iv),
+        4 => trace_from::<EveryOther<Snow2>>(state, n, key, iv),
+        _ => Err(CallFault::UnknownGenerator),
     };
+    *names = Names::from(traced);
 }

@@ -1,5 +1,4 @@
 use Rattle.std.proofs.Common.{Ok, Err, sym, subst}
-use Rattle.session.specs.View.{view}
 use Rattle.session.specs.Calls.{Opened}
 use Rattle.exports.specs.Answers.{Sent, not_opened, not_skipped, applied}
 use Rattle.exports.proofs.Refused.{err_from}
@@ -11,7 +10,7 @@ returns-in_err-open g c =
     let task = c.args.task in
     let buffer = c.args.buffer.now in
     let e = c.in_err-open.field-0.0 in
-    let after = view g.G.Generator.state c.open.new.self in
+    let after = c.open.new.self in
     let made = subst (λ v. Opened m v c.args.key.now task.iv.now task.limit (Err e) after) c.new-session.ensures c.in_err-open.ensures.opened in
     record {
       sent = subst (λ r. Sent m c.args.key.now task.iv.now task.limit task.skipped task.start task.count buffer r buffer) (sym (err_from c.from_residual.result e c.from_residual.ensures.1))
@@ -25,7 +24,7 @@ returns-in_err-skip g c =
     let task = c.args.task in
     let buffer = c.args.buffer.now in
     let e = c.in_err-skip.field-0.0 in
-    let after = view g.G.Generator.state c.open.new.self in
+    let after = c.open.new.self in
     let made = subst (λ v. Opened m v c.args.key.now task.iv.now task.limit (Ok tt) after) c.new-session.ensures c.in_ok-open.ensures.opened in
     record {
       sent = subst (λ r. Sent m c.args.key.now task.iv.now task.limit task.skipped task.start task.count buffer r buffer) (sym (err_from c.from_residual-in_err-skip.result e c.from_residual-in_err-skip.ensures.1))
@@ -37,7 +36,7 @@ pub returns : goal.returns
 returns g c =
     let m = g.G.Generator.meaning in
     let task = c.args.task in
-    let after = view g.G.Generator.state c.open.new.self in
+    let after = c.open.new.self in
     let made = subst (λ v. Opened m v c.args.key.now task.iv.now task.limit (Ok tt) after) c.new-session.ensures c.in_ok-open.ensures.opened in
     record {
       sent = applied after _ _ _ c.apply_keystream.result made c.in_ok-skip.ensures c.apply_keystream.ensures;
