@@ -1,9 +1,9 @@
 -- Rules shown by one computed test: of every number below a bound, and of a table at all of its entries. Assumes nothing.
-use Rattle.std.proofs.Common.{◌≡◌, ℕ, ◌<◌, Bool, true, false, eqb, ltb, List, length, get_or, sym, refl, ap, ◌∙◌, subst, zero-add, arith, eqb-true, ltb-true}
+use Rattle.std.proofs.Common.{◌≡◌, ℕ, ◌<◌, Bool, true, eqb, ltb, List, length, get_or, sym, refl, ◌∙◌, subst, zero-add, arith, eqb-true, ltb-true}
 use Rattle.std.specs.List.{list_all, range_with_len}
 use Rattle.std.proofs.lemmas.List.{get_or_default}
-use Rattle.std.proofs.lemmas.List.Folds.{list_all_at}
 use Rattle.std.proofs.lemmas.List.FromFn.{get_or-range_with_len, length-range_with_len}
+use Rattle.std.proofs.lemmas.List.Recursion.{and_at}
 use Rattle.fields.specs.Tables.{Follows}
 
 -- the test t passes at every number below n
@@ -11,11 +11,8 @@ abbrev pub all_below : ℕ → (ℕ → Bool) → Bool
 all_below n t = list_all t (range_with_len 0 n)
 
 pub all_at : (n : ℕ) (t : ℕ → Bool) → all_below n t ≡ true → (k : ℕ) → k < n → t k ≡ true
-all_at n t all k h = go (t k) refl
-  where
-    go : (b : Bool) → t k ≡ b → t k ≡ true
-    go true e = e
-    go false e = let fails = list_all_at t (range_with_len 0 n) k 0 (omega (arith, length-range_with_len 0 n)) (ap t (get_or-range_with_len 0 n k 0 h ∙ zero-add k) ∙ e) in cc
+all_at n t all k h =
+    subst (λ j. t j ≡ true) (get_or-range_with_len 0 n k 0 h ∙ zero-add k) (and_at (list_all t) t refl (λ x xs. refl) (range_with_len 0 n) k 0 (omega (arith, length-range_with_len 0 n)) all)
 
 -- f and g agree on every number below n
 abbrev pub agree : ℕ → (ℕ → ℕ) → (ℕ → ℕ) → Bool

@@ -1,9 +1,9 @@
 -- SR and SQ permute the bytes, and tables of the byte that a box takes to another. Assumes nothing.
-use Rattle.std.proofs.Common.{◌≡◌, ℕ, zero, suc, ◌<◌, ◌≤◌, ◌==◌, true, false, eqb, List, length, get_or, map, sym, refl, ap, ◌∙◌, subst, ⊎_elim, not-suc-le-zero, zero-add, arith, eq-eqb, ne_eqb}
+use Rattle.std.proofs.Common.{◌≡◌, ℕ, zero, suc, ◌<◌, ◌≤◌, ◌==◌, ◌&&◌, Bool, true, false, eqb, List, length, get_or, map, sym, refl, ap, ◌∙◌, subst, ⊎_elim, not-suc-le-zero, zero-add, arith, eq-eqb, ne_eqb}
 use Rattle.std.specs.List.{position_or_len, range_with_len}
 use Rattle.std.proofs.lemmas.List.{get_or_default}
 use Rattle.std.proofs.lemmas.List.FromFn.{get_or-map-range_with_len}
-use Rattle.std.proofs.lemmas.Bool.{cases_lt, cases_eq}
+use Rattle.std.proofs.lemmas.Bool.{cases_lt, cases_eq, and_parts}
 use Rattle.fields.specs.Doubling.{doubled, partial_product, product}
 use Rattle.fields.specs.Boxes.{rotated, affine, sr, sq, search_below, undone}
 use Rattle.fields.specs.Tables.{Follows}
@@ -43,38 +43,48 @@ undone_below f v = search_low 256 f v 256 (omega arith) (omega arith)
 abbrev place : List ℕ → ℕ → ℕ
 place l v = position_or_len (λ x. eqb x v) l
 
--- a box permutes the bytes, by tests on the list of what it takes them to: its entries and the places of the bytes in it are bytes, and undo each other
-permutes : (f quick : ℕ → ℕ) → ((k : ℕ) → k < 256 → f k ≡ quick k) → (l : List ℕ) → l ≡ map quick (range_with_len 0 256) → to_bytes (λ k. get_or l k 0) ≡ true → to_bytes (place l) ≡ true
-    → agree 256 (λ k. place l (get_or l k 0)) (λ k. k) ≡ true → agree 256 (λ v. get_or l (place l v) 0) (λ v. v) ≡ true → Permutes f
+-- the test of a list of 256: its entries and the places of the bytes in it are bytes, and undo each other
+abbrev permuted : List ℕ → Bool
+permuted l = to_bytes (λ k. get_or l k 0) && (to_bytes (place l) && (agree 256 (λ k. place l (get_or l k 0)) (λ k. k) && agree 256 (λ v. get_or l (place l v) 0) (λ v. v)))
+
+-- a box permutes the bytes, by the test of the list of what it takes them to
+permutes : (f quick : ℕ → ℕ) → ((k : ℕ) → k < 256 → f k ≡ quick k) → (l : List ℕ) → l ≡ map quick (range_with_len 0 256) → permuted l ≡ true → Permutes f
 unfolding undone
-permutes f quick same l is entries places back forth = record {
+permutes f quick same l is test = record {
   stays = stays;
   back = λ a ha. undone_is (f a) (stays a ha) ∙ placed a ha;
   forth = λ v hv. ap f (undone_is v hv) ∙ found v hv;
 }
   where
+    parts : (to_bytes (λ k. get_or l k 0) ≡ true) × (to_bytes (place l) ≡ true) × (agree 256 (λ k. place l (get_or l k 0)) (λ k. k) ≡ true) × (agree 256 (λ v. get_or l (place l v) 0) (λ v. v) ≡ true)
+    parts =
+        let (entries, rest) = and_parts (to_bytes (λ k. get_or l k 0)) _ test in
+        let (places, both) = and_parts (to_bytes (place l)) _ rest in
+        let (back, forth) = and_parts (agree 256 (λ k. place l (get_or l k 0)) (λ k. k)) _ both in
+        (entries, places, back, forth)
+
     reads : (k : ℕ) → k < 256 → f k ≡ get_or l k 0
     reads k h = same k h ∙ sym (ap (λ xs. get_or xs k 0) is ∙ get_or-map-range_with_len quick 0 256 k k 0 h (zero-add k))
 
     stays : (a : ℕ) → a < 256 → f a < 256
-    stays a ha = subst (λ x. x < 256) (sym (reads a ha)) (byte_at (λ k. get_or l k 0) entries a ha)
+    stays a ha = subst (λ x. x < 256) (sym (reads a ha)) (byte_at (λ k. get_or l k 0) parts.0 a ha)
 
     placed : (a : ℕ) → a < 256 → place l (f a) ≡ a
-    placed a ha = ap (place l) (reads a ha) ∙ agree_at 256 (λ k. place l (get_or l k 0)) (λ k. k) back a ha
+    placed a ha = ap (place l) (reads a ha) ∙ agree_at 256 (λ k. place l (get_or l k 0)) (λ k. k) parts.2 a ha
 
     found : (v : ℕ) → v < 256 → f (place l v) ≡ v
-    found v hv = reads (place l v) (byte_at (place l) places v hv) ∙ agree_at 256 (λ v. get_or l (place l v) 0) (λ v. v) forth v hv
+    found v hv = reads (place l v) (byte_at (place l) parts.1 v hv) ∙ agree_at 256 (λ v. get_or l (place l v) 0) (λ v. v) parts.3 v hv
 
     undone_is : (v : ℕ) → v < 256 → undone f v ≡ place l v
-    undone_is v hv = search_finds 256 f v (place l v) (byte_at (place l) places v hv) (found v hv) (λ w hw e. sym (placed w hw) ∙ ap (place l) e)
+    undone_is v hv = search_finds 256 f v (place l v) (byte_at (place l) parts.1 v hv) (found v hv) (λ w hw e. sym (placed w hw) ∙ ap (place l) e)
 
 pub sr_permutes : Permutes sr
 unfolding doubled partial_product product rotated affine sr_quick
-sr_permutes = permutes sr sr_quick sr_is (map sr_quick (range_with_len 0 256)) refl refl refl refl refl
+sr_permutes = permutes sr sr_quick sr_is _ refl refl
 
 pub sq_permutes : Permutes sq
 unfolding doubled partial_product product sq_quick
-sq_permutes = permutes sq sq_quick sq_is (map sq_quick (range_with_len 0 256)) refl refl refl refl refl
+sq_permutes = permutes sq sq_quick sq_is _ refl refl
 
 -- the byte that a box takes to another
 pub undone_is : (f : ℕ → ℕ) → Permutes f → (v u : ℕ) → u < 256 → f u ≡ v → undone f v ≡ u
