@@ -1,4 +1,4 @@
-// Answers by numbers. `number` is that of a refusal, and 0 where there is none.
+// Answers by numbers. `number` is that of a refusal, and 0 where there is none. Kept as numbers and not as a `Result`: C reads them.
 ghost use Rattle.std.specs.Prelude.{◌≡◌};
 ghost use Rattle.exports.specs.Answers.{report_numbers, outcome_of, answer_names, part_of};
 

@@ -1,4 +1,4 @@
-// Tables and word boxes.
+// Tables and word boxes. Kept as matches on numbers: C hands them in.
 ghost use Rattle.std.specs.Prelude.{◌≡◌};
 ghost use Rattle.exports.specs.Answers.{table_entry, word_through};
 

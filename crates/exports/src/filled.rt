@@ -1,4 +1,5 @@
-// Generators made from the words of a state.
+// Generators made from the words of a state. Kept as an `impl` for each, though two read alike: one over all would want a trait for their `new` and
+// `fill`, with an `impl` for each again.
 ghost use Rattle.std.specs.Prelude.{◌≡◌, length, MatchResult, ◌≢◌};
 ghost use Rattle.snow.specs.declared.refusals.FillFault.TheVariants.{WrongCount};
 

@@ -58,6 +58,7 @@ pub extern "C" fn jorumdell_keystream(
         start,
         count,
     };
+    // Kept as numbers in each call: C hands them in, and each arm is an instance at another type.
     let answer = match generator {
         0 => send(Snow2::new(), key, task, buffer),
         1 => send(Snow3g::new(), key, task, buffer),

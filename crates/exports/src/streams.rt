@@ -37,6 +37,7 @@ pub extern "C" fn jorumdell_words(
 ) -> u64
     ensures { StreamedBy generator state.now back words.old result words.new }
 {
+    // Kept as numbers in each call: C hands them in, and each arm is an instance at another type.
     let streamed = match generator {
         0 => stream::<Snow2>(state, back, words),
         1 => stream::<Snow3g>(state, back, words),

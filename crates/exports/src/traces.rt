@@ -33,6 +33,7 @@ pub extern "C" fn jorumdell_trace(
 )
     ensures { TracedBy generator state.now n key.old iv.old names.new key.new iv.new }
 {
+    // Kept as numbers in each call: C hands them in, and each arm is an instance at another type.
     let traced = match generator {
         0 => trace_from::<Snow2>(state, n, key, iv),
         1 => trace_from::<Snow3g>(state, n, key, iv),

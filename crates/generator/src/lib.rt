@@ -80,6 +80,7 @@ pub trait Generator {
         ensures { state self.new ≡ zeros meaning };
 
     // The key and the IV whose load is the present state, at the front of the two buffers, and their lengths; it may step, and ends where it began.
+    // Kept as buffers of the caller's: nothing here takes memory from a heap, and refusal 9 is about their lengths.
     fn origin(&mut self, key: &mut [u8], iv: &mut [u8]) -> Result<(usize, usize), OriginFault>
         ensures named { Named meaning 0 (state self.old) key.old iv.old result key.new iv.new }
         ensures same { state self.new ≡ state self.old };

@@ -1,12 +1,13 @@
--- The machine of SNOW 2.0 is sound. Assumes nothing.
+-- The machine of SNOW 2.0 is sound, so SNOW 2.0 keeps the laws of generators. Assumes nothing.
 use Rattle.std.specs.Prelude.{◌≡◌, ℕ, ◌^◌, ◌<◌, ◌⊎◌, true, List, refl, ◌||◌, ◌==◌}
 use Rattle.std.proofs.Common.{arith}
 use Rattle.std.proofs.lemmas.Bool.Decides.{nat_tests}
 use Rattle.fields.proofs.WordBoxes.{s1_inverse}
-use Rattle.generator.specs.Meaning.{State}
+use Rattle.generator.specs.Meaning.{State, Lawful}
 use Rattle.snow.specs.Register.{at}
 use Rattle.snow.specs.Machines.{Sound}
-use Rattle.snow.specs.Snow2.{b_next, b_back, snow2_machine}
+use Rattle.snow.specs.Snow2.{b_next, b_back, snow2_machine, snow2}
+use Rattle.snow.specs.CipherLaws.{cipher_lawful}
 use Rattle.snow.specs.ShiftLaws.{words_of_state}
 use Rattle.snow.specs.Sums.{plus_below, minus_below, minus_plus, plus_minus}
 
@@ -46,3 +47,6 @@ snow2_sound = record {
   takes_long = refl;
   takes_no_other = takes_no_other;
 }
+
+pub snow2_lawful : Lawful snow2
+snow2_lawful = cipher_lawful snow2_machine snow2_sound

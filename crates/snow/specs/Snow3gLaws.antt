@@ -1,4 +1,4 @@
--- The machine of SNOW 3G is sound. Assumes nothing.
+-- The machine of SNOW 3G is sound, so SNOW 3G keeps the laws of generators. Assumes nothing.
 use Rattle.std.specs.Prelude.{◌≡◌, ℕ, ◌^◌, ◌<◌, ◌⊎◌, true, List, refl, ◌==◌}
 use Rattle.std.proofs.Common.{ap, ◌∙◌, arith}
 use Rattle.std.proofs.lemmas.Bool.Decides.{nat_tests}
@@ -6,10 +6,11 @@ use Rattle.std.proofs.lemmas.Nat.{xor_lt}
 use Rattle.words.specs.Words.{◌⊕◌}
 use Rattle.fields.specs.Mixing.{s2, s2_undone}
 use Rattle.fields.proofs.WordBoxes.{s1_inverse, s2_inverse}
-use Rattle.generator.specs.Meaning.{State}
+use Rattle.generator.specs.Meaning.{State, Lawful}
 use Rattle.snow.specs.Register.{at, plus, minus}
 use Rattle.snow.specs.Machines.{Sound}
-use Rattle.snow.specs.Snow3g.{r_next, r_back, snow3g_machine}
+use Rattle.snow.specs.Snow3g.{r_next, r_back, snow3g_machine, snow3g}
+use Rattle.snow.specs.CipherLaws.{cipher_lawful}
 use Rattle.snow.specs.ShiftLaws.{words_of_state}
 use Rattle.snow.specs.Sums.{plus_below, minus_below, minus_first, plus_rest, joined_off}
 
@@ -61,3 +62,6 @@ snow3g_sound = record {
   takes_long = refl;
   takes_no_other = takes_no_other;
 }
+
+pub snow3g_lawful : Lawful snow3g
+snow3g_lawful = cipher_lawful snow3g_machine snow3g_sound

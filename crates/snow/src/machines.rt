@@ -26,6 +26,7 @@ pub trait Machine: Copy {
     fn of(list: &[u32]) -> Result<Self, FillFault>
         ensures { MatchResult result (λ m. (length list.now ≡ machine.size) × (words m ≡ list.now)) (λ f. (length list.now ≢ machine.size) × (f ≡ WrongCount)) };
 
+    // Kept beside `==`: of a bound `PartialEq` a proof knows only that it is an equivalence.
     fn is_zero(&self) -> bool
         ensures { MatchBool result (words self.now ≡ replicate machine.size 0) (words self.now ≢ replicate machine.size 0) };
 

@@ -25,7 +25,7 @@ pub(crate) enum Order<'a> {
 }
 
 impl Order<'_> {
-    // The top four bits of the order's word, and of its reply where it is accepted.
+    // The top four bits of the order's word, and of its reply where it is accepted. Kept as a number: it is the format's.
     pub(crate) fn kind(self) -> u32
         ensures { result ≡ kind (asked self.entry) }
     {

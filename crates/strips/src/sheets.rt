@@ -22,6 +22,7 @@ pub fn answer_sheet(input: &[u8], replies: &mut [u8]) -> Report
         return refuse(Stop::CutShort, replies);
     }
     let strip = &input[4..];
+    // Kept as words: they are the format's, and each arm is an instance at another type.
     match sheet.word(0) {
         0x9000_0000 => run(Snow2::new(), strip, replies),
         0x9000_0001 => run(Snow3g::new(), strip, replies),

@@ -1,7 +1,7 @@
 // Compares what the standards print with what is held. The files under data/ keep each entry as it is printed.
 #![tactic(auto)]
 
-use anyhow::anyhow;
+use anyhow::Context;
 use std::fs;
 
 mod ciphers;
@@ -10,36 +10,36 @@ mod tables;
 mod tally;
 
 use tables::Table;
+use tally::Tally;
 
 fn compare_table(rt: &HostRuntime, title: &str, file: &str, table: Table) -> anyhow::Result<()> {
     let text = fs::read_to_string(rt, file)?;
-    let mut entries = 0u16;
-    let mut differing = 0u16;
-    let mut short = 0u16;
-    for printed in text.split_whitespace() {
-        if entries > 255 {
-            return Err(anyhow!("a table has more than 256 entries"));
+    let mut tally = Tally::default();
+    let mut full = Tally::default();
+    for (place, printed) in text.split_whitespace().enumerate() {
+        let place = u8::try_from(place).context("a table has more than 256 entries")?;
+        let held = table.held(place);
+        let agrees = tables::number(printed)? == held;
+        if !agrees {
+            println!(rt; "  {title}[{place:02X}]: printed {printed}, held {held:08X}")?;
         }
-        let held = table.held((entries & 0xFF) as u8);
-        let value = tables::number(printed)?;
-        if value != held {
-            differing = differing.saturating_add(1);
-            println!(rt; "  {title}[{entries:02X}]: printed {printed}, held {held:08X}")?;
-        } else if table.digits() > printed.len() {
-            short = short.saturating_add(1);
-        }
-        entries += 1;
+        tally.count(agrees);
+        full.count(!agrees || printed.len() >= table.digits());
     }
+    let Tally {
+        compared,
+        differing,
+    } = tally;
+    let short = full.differing;
     println!(rt;
-        "{title}: {entries} entries compared, {differing} differ, {short} agree but lack a leading zero"
+        "{title}: {compared} entries compared, {differing} differ, {short} agree but lack a leading zero"
     )?;
     Ok(())
 }
 
 fn compare_doublings(rt: &HostRuntime) -> anyhow::Result<()> {
     let text = fs::read_to_string(rt, "etsi_mulx.txt")?;
-    let mut examples = 0u16;
-    let mut differing = 0u16;
+    let mut tally = Tally::default();
     for line in text.lines() {
         let mut words = line.split_whitespace();
         let byte = tables::byte(words.next())?;
@@ -47,12 +47,15 @@ fn compare_doublings(rt: &HostRuntime) -> anyhow::Result<()> {
         let printed = tables::byte(words.next())?;
         let held = fields::double(byte, tap);
         if printed != held {
-            differing = differing.saturating_add(1);
             println!(rt; "  MULx({byte:02X}, {tap:02X}): printed {printed:02X}, held {held:02X}")?;
         }
-        examples = examples.saturating_add(1);
+        tally.count(printed == held);
     }
-    println!(rt; "ETSI/SAGE 3.1.1 MULx: {examples} examples compared, {differing} differ")?;
+    let Tally {
+        compared,
+        differing,
+    } = tally;
+    println!(rt; "ETSI/SAGE 3.1.1 MULx: {compared} examples compared, {differing} differ")?;
     Ok(())
 }
 

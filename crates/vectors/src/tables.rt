@@ -1,5 +1,5 @@
 // The tables that are held, by the calls that give their entries.
-use anyhow::anyhow;
+use anyhow::Context;
 use fields::{S1, S2, WordBox};
 
 // S1(i) and S2(i) are the shares of the bytes in the word boxes, byte 0 the least significant.
@@ -43,19 +43,11 @@ fn held_share<B: WordBox>(byte: u8, place: u8) -> u32 {
 
 // A number as printed, in hexadecimal, with or without 0x before it.
 pub(crate) fn number(printed: &str) -> anyhow::Result<u32> {
-    let digits = match printed.strip_prefix("0x") {
-        Some(rest) => rest,
-        None => printed,
-    };
+    let digits = printed.strip_prefix("0x").unwrap_or(printed);
     Ok(u32::from_str_radix(digits, 16)?)
 }
 
 pub(crate) fn byte(printed: Option<&str>) -> anyhow::Result<u8> {
-    let Some(text) = printed else {
-        return Err(anyhow!("a line is too short"));
-    };
-    match u8::try_from(number(text)?) {
-        Ok(value) => Ok(value),
-        Err(_) => Err(anyhow!("a number is no byte")),
-    }
+    let text = printed.context("a line is too short")?;
+    u8::try_from(number(text)?).context("a number is no byte")
 }
