@@ -15,7 +15,7 @@ TOP = sys.argv[1] if len(sys.argv) > 1 else '.'
 LINES = {
     '1 numbers and flags for kinds and refusals, matches that a method of Option or Result says': [
         r'\bkind: u32|\btable: u32|\bwhich: u32|\bgenerator: u32|number: u64|\) -> u64$|-> Result<bool',
-        r'limit == 0|const UNKNOWN|0x9000_000\d =>|match word >> 28',
+        r'limit == 0|const UNKNOWN|0x9000_0000 =>|match word >> 28',
         r'Ok\(_\) => 0|Err\(_\) => 1|None => 0,|None => Err\(|Err\(_\) => Err\(|None => false|Some\(\w+\) => Ok\(|Ok\(\w+\) => Ok\(\w+\)',
     ],
     '3 loops that count by hand': [r'for \w+ in [\w.]+\.\.', r'^\s+loop \{', r'\bwhile\b'],
