@@ -1,5 +1,6 @@
 -- Lists of bytes and lists of words, one from the other. Assumes nothing.
-use Rattle.std.proofs.Common.{◌≡◌, ℕ, zero, suc, ◌+◌, ◌*◌, ◌/◌, ◌≤◌, List, [], ◌∷◌, length, get_or, refl, ap, ap₂, arith}
+use Rattle.std.proofs.Common.{◌≡◌, ℕ, zero, suc, ◌*◌, ◌/◌, ◌<◌, ◌≤◌, List, [], ◌∷◌, length, get_or, slice_index, slice_index_or, refl, ap, ap₂, arith}
+use Rattle.std.specs.Simd.{first_chunks}
 use Rattle.words.specs.Words.{Bytes, Words, word, words_bytes, words_of}
 use Rattle.words.proofs.Words.{byte_0, byte_1, byte_2, byte_3, byte_below, word_bytes, word_below}
 
@@ -47,19 +48,16 @@ bytes_of_words (suc n) (a ∷ b ∷ c ∷ d ∷ bs) (ha, (hb, (hc, (hd, rest))))
     let more = bytes_of_words n bs rest (omega arith) in
     cc
 
--- a word of a list of bytes, by its bytes
-pub word_of_bytes : (bs : List ℕ) (i : ℕ) → 4 * i + 4 ≤ length bs → get_or (words_of bs) i 0 ≡ word (get_or bs (4 * i) 0) (get_or bs (4 * i + 1) 0) (get_or bs (4 * i + 2) 0) (get_or bs (4 * i + 3) 0)
-word_of_bytes [] i h = absurd (omega arith)
-word_of_bytes (a ∷ []) i h = absurd (omega arith)
-word_of_bytes (a ∷ b ∷ []) i h = absurd (omega arith)
-word_of_bytes (a ∷ b ∷ c ∷ []) i h = absurd (omega arith)
-word_of_bytes (a ∷ b ∷ c ∷ d ∷ bs) zero h = refl
-word_of_bytes (a ∷ b ∷ c ∷ d ∷ bs) (suc i) h =
-    let e0 : 4 * suc i ≡ suc (suc (suc (suc (4 * i)))) = omega arith in
-    let e1 : 4 * suc i + 1 ≡ suc (suc (suc (suc (4 * i + 1)))) = omega arith in
-    let e2 : 4 * suc i + 2 ≡ suc (suc (suc (suc (4 * i + 2)))) = omega arith in
-    let e3 : 4 * suc i + 3 ≡ suc (suc (suc (suc (4 * i + 3)))) = omega arith in
-    rw (e1, e2, e3, e0) (word_of_bytes bs i (omega arith))
+-- the word of chunk i of four bytes is word i
+pub chunk_word : (n : ℕ) (bs : List ℕ) (i : ℕ) (c : List ℕ) → i < n → 4 * n ≤ length bs → c ≡ slice_index_or (first_chunks 4 n bs) i []
+    → word (slice_index c 0) (slice_index c 1) (slice_index c 2) (slice_index c 3) ≡ get_or (words_of bs) i 0
+chunk_word zero bs i c lt h e = absurd (omega arith)
+chunk_word (suc n) [] i c lt h e = absurd (omega arith)
+chunk_word (suc n) (b0 ∷ []) i c lt h e = absurd (omega arith)
+chunk_word (suc n) (b0 ∷ b1 ∷ []) i c lt h e = absurd (omega arith)
+chunk_word (suc n) (b0 ∷ b1 ∷ b2 ∷ []) i c lt h e = absurd (omega arith)
+chunk_word (suc n) (b0 ∷ b1 ∷ b2 ∷ b3 ∷ bs) zero c lt h e = ap (λ c. word (slice_index c 0) (slice_index c 1) (slice_index c 2) (slice_index c 3)) e
+chunk_word (suc n) (b0 ∷ b1 ∷ b2 ∷ b3 ∷ bs) (suc i) c lt h e = chunk_word n bs i c (omega arith) (omega arith) e
 
 -- past the last whole word there is none
 pub no_word : (bs : List ℕ) (i : ℕ) → length bs / 4 ≤ i → get_or (words_of bs) i 0 ≡ 0

@@ -15,11 +15,11 @@ pub fn byte_at(word: u32, place: u64) -> u8
 pub fn word_at(bytes: &[u8], place: usize) -> u32
     ensures { result ≡ word_at bytes.now place }
 {
-    if place >= bytes.len() / 4 {
+    let (words, _) = bytes.as_chunks::<4>();
+    let Some(word) = words.get(place) else {
         return 0;
-    }
-    let at = 4 * place;
-    u32::from_be_bytes([bytes[at], bytes[at + 1], bytes[at + 2], bytes[at + 3]])
+    };
+    u32::from_be_bytes(*word)
 }
 
 // What a slice of bytes holds is bytes, as a proof sees once one is read.

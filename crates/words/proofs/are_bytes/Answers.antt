@@ -1,11 +1,6 @@
-use Rattle.std.proofs.Common.{sym, subst, arith, true-eqb}
-use Rattle.std.proofs.lemmas.List.{nil_from_length}
-use Rattle.words.specs.Words.{Bytes}
+use Rattle.std.proofs.Common.{arith}
 use Rattle.words.proofs.Words.{all_from_each}
 use Rattle.words.proofs.are_bytes.Goals as goal
 
 pub returns : goal.returns
 returns c = all_from_each 256 c.args.bytes.now (λ i. omega (arith, c.type_inv.bytes i))
-
-pub returns-then-is_empty : goal.returns-then-is_empty
-returns-then-is_empty c = subst Bytes (sym (nil_from_length c.args.bytes.now (true-eqb _ _ c.if-is_empty.ensures))) tt
