@@ -1,10 +1,13 @@
 // A keystream generator: what every one of them means, keeps and does.
 #![tactic(auto)]
 
-ghost use Rattle.std.specs.Prelude.{◌≡◌, ℕ, List};
+ghost use Rattle.std.specs.Prelude.{◌≡◌, ℕ, List, length, MatchBool, ◌<◌, ◌⊎◌};
 ghost use Rattle.generator.specs.Refusals.{fault_number, member, origin_number};
 ghost use Rattle.generator.specs.Meaning.{Meaning, Lawful, State, times, zeros};
-ghost use Rattle.generator.specs.Calls.{Loaded, Named};
+ghost use Rattle.generator.specs.Calls.{Loaded, Named, Roomy};
+
+// The longest key and the longest IV, in bytes. A buffer for one has room for the longest.
+pub const LONGEST: usize = 255;
 
 // Why a key or an IV has no load, with the member of a combined generator that said so; 0 is the generator itself.
 #[derive(Clone, Copy, PartialEq, Eq, Debug)]
@@ -51,6 +54,13 @@ impl OriginFault {
             OriginFault::NoOrigin => 10,
         }
     }
+}
+
+// Whether two buffers have room for any key and any IV.
+pub fn have_room(key: &[u8], iv: &[u8]) -> bool
+    ensures { MatchBool result (Roomy key.now iv.now) ((length key.now < LONGEST) ⊎ (length iv.now < LONGEST)) }
+{
+    key.len() >= LONGEST && iv.len() >= LONGEST
 }
 
 // Code over any generator is proved from these contracts and laws alone. `meaning` says what the generator is, and `state` which state of it
