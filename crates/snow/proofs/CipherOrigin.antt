@@ -12,7 +12,7 @@ use Rattle.snow.specs.Machines.{Machine, Sound}
 use Rattle.snow.specs.Origins.{key_in, iv_beside, Holds, unnumbered, Read}
 use Rattle.snow.specs.Cipher.{step, feed, unstep, unfeed, prepared, started, rewound, cipher_load, cipher}
 use Rattle.snow.specs.Numbers.{numbered_unnumbered, length_unnumbered}
-use Rattle.snow.specs.LoadLaws.{held, expanded_state, key_state, iv_state}
+use Rattle.snow.specs.LoadLaws.{held, key_state, iv_state}
 use Rattle.snow.specs.Starts.{started_rewound}
 use Rattle.snow.specs.RegisterLaws.{register_fits}
 use Rattle.snow.specs.States.{state_of}
@@ -51,7 +51,7 @@ module _ (c : Machine) (sound : Sound c) (s a m : List ℕ) (st : State (16 + c.
   pub none_by_register : (c.takes 16 ≡ true → Holds 4 a → ⊥) → (Holds 8 a → ⊥) → (key iv : List ℕ) → Reaches (cipher c) key iv 0 s → ⊥
   none_by_register short long key iv r =
       let l = says c sound r in
-      let holds = held l.words a (numbered key) (numbered iv) l.sizes (key_words c sound r.key_bytes r.iv_bytes l) (iv_words c sound r.key_bytes r.iv_bytes l).count (begins r).0 in
+      let holds = held l.words a (numbered key) (numbered iv) l.sizes (key_words c sound r.key_bytes r.iv_bytes l).count (iv_words c sound r.key_bytes r.iv_bytes l).count (begins r).0 in
       ⊎_elim (λ e. short (ap c.takes (ap (λ n. 4 * n) (sym e) ∙ sym l.key_long) ∙ l.taken) (subst (λ n. Holds n a) e holds)) (λ e. long (subst (λ n. Holds n a) e holds)) l.sizes
 
   -- what is read off the register reaches s
@@ -63,7 +63,7 @@ module _ (c : Machine) (sound : Sound c) (s a m : List ℕ) (st : State (16 + c.
     read_key = key_state n a (⊎_elim (λ e. omega arith) (λ e. omega arith) sizes) sa
 
     read_iv : State 4 (iv_beside n a)
-    read_iv = iv_state (expanded (key_in n a)) a (expanded_state n (key_in n a) sizes read_key) sa
+    read_iv = iv_state n a sizes sa
 
     key_long : length (unnumbered (key_in n a)) ≡ 4 * n
     key_long = length_unnumbered (key_in n a) ∙ ap (λ n. 4 * n) read_key.count

@@ -11,7 +11,7 @@ use Rattle.words.proofs.Words.{fits_append, fits_replicate}
 use Rattle.snow.specs.Register.{numbered}
 use Rattle.snow.specs.Loading.{expanded, with_iv}
 use Rattle.snow.specs.Machines.{Machine, Sound}
-use Rattle.snow.specs.Cipher.{step, feed, unstep, unfeed, prepared, started, cipher}
+use Rattle.snow.specs.Cipher.{step, feed, unstep, unfeed, prepared, started, rewound, cipher_load, cipher}
 use Rattle.snow.specs.Numbers.{numbered_state, numbered_one, plain_member}
 use Rattle.snow.specs.LoadLaws.{expanded_state, with_iv_state, read_one, lengths_apart}
 use Rattle.snow.specs.Starts.{started_state, rewound_started}
@@ -44,12 +44,24 @@ refusals true n p f e = grind (arith, nat_tests)
 refusals false n p f e = inl (cc)
 
 module _ (c : Machine) (sound : Sound c) where
-  pub says : {key iv s : List ℕ} → Reaches (cipher c) key iv 0 s → Load c key iv s
-  says {key} {iv} {s} r =
-      let (taken, long, starts) = tests (c.takes (length key)) (length iv) (started c (prepared c key iv)) s (r.loads ∙ ap Ok r.arrives) in
+  load_says : (key iv s : List ℕ) → cipher_load c key iv ≡ Ok s → Load c key iv s
+  load_says key iv s e =
+      let (taken, long, starts) = tests (c.takes (length key)) (length iv) (started c (prepared c key iv)) s e in
       ⊎_elim (λ e. record { words = 4; sizes = inl refl; key_long = e; taken = taken; iv_long = long; starts = starts })
       (λ e. record { words = 8; sizes = inr refl; key_long = e; taken = taken; iv_long = long; starts = starts })
       (sound.takes_no_other (length key) taken)
+
+  pub says : {key iv s : List ℕ} → Reaches (cipher c) key iv 0 s → Load c key iv s
+  says {key} {iv} {s} r = load_says key iv s (r.loads ∙ ap Ok r.arrives)
+
+  faults : (key iv : List ℕ) (f : Fault) → cipher_load c key iv ≡ Err f → (f ≡ Key 0) ⊎ (f ≡ Iv 0)
+  faults key iv f e = refusals (c.takes (length key)) (length iv) (started c (prepared c key iv)) f e
+
+  -- equal starts come from equal registers
+  one_register : (a b : List ℕ) → State (16 + c.size) (a ++ replicate c.size 0) → State (16 + c.size) (b ++ replicate c.size 0) → started c (a ++ replicate c.size 0) ≡ started c (b ++ replicate c.size 0) → a ≡ b
+  one_register a b sa sb e =
+      append_cancel_right a b (replicate c.size 0)
+      (sym (rewound_started (16 + c.size) (step c) (feed c) (unstep c) (unfeed c) (steps c sound) sa) ∙ ap (rewound c) e ∙ rewound_started (16 + c.size) (step c) (feed c) (unstep c) (unfeed c) (steps c sound) sb)
 
   module _ {key iv s : List ℕ} (key_bytes : Bytes key) (iv_bytes : Bytes iv) (l : Load c key iv s) where
     pub key_words : State l.words (numbered key)
@@ -74,16 +86,13 @@ module _ (c : Machine) (sound : Sound c) where
     load_short = ⊎_elim (λ e. (omega (arith, l.key_long), omega (arith, l.iv_long))) (λ e. (omega (arith, l.key_long), omega (arith, l.iv_long))) l.sizes
 
   module _ {key iv key' iv' s : List ℕ} (kb : Bytes key) (ib : Bytes iv) (kb' : Bytes key') (ib' : Bytes iv') (l : Load c key iv s) (l' : Load c key' iv' s) where
-    -- equal starts come from equal registers
     same : with_iv (expanded (numbered key)) (numbered iv) ≡ with_iv (expanded (numbered key')) (numbered iv')
-    same =
-        append_cancel_right (with_iv (expanded (numbered key)) (numbered iv)) (with_iv (expanded (numbered key')) (numbered iv')) (replicate c.size 0)
-        (sym (rewound_start kb ib l) ∙ rewound_start kb' ib' l')
+    same = one_register (with_iv (expanded (numbered key)) (numbered iv)) (with_iv (expanded (numbered key')) (numbered iv')) (prepared_state kb ib l) (prepared_state kb' ib' l') (sym l.starts ∙ l'.starts)
 
     one_length : l'.words ≡ l.words → (key ≡ key') × (iv ≡ iv')
     one_length e =
         let long : length key' ≡ 4 * l.words = l'.key_long ∙ ap (λ n. 4 * n) e in
-        let (k, v) = read_one l.words (numbered key) (numbered iv) (numbered key') (numbered iv') l.sizes (key_words kb ib l) (numbered_state l.words key' kb' long) (iv_words kb ib l) (iv_words kb' ib' l') same in
+        let (k, v) = read_one l.words (numbered key) (numbered iv) (numbered key') (numbered iv') l.sizes (key_words kb ib l).count (numbered_state l.words key' kb' long).count (iv_words kb ib l).count (iv_words kb' ib' l').count same in
         (numbered_one l.words key key' kb kb' l.key_long long k, numbered_one 4 iv iv' ib ib' l.iv_long l'.iv_long v)
 
     load_one : (key ≡ key') × (iv ≡ iv')
@@ -104,5 +113,5 @@ module _ (c : Machine) (sound : Sound c) where
     load_state = λ r. loaded_state r.key_bytes r.iv_bytes (says r);
     load_one = λ r r'. load_one r.key_bytes r.iv_bytes r'.key_bytes r'.iv_bytes (says r) (says r');
     load_short = λ r. load_short r.key_bytes r.iv_bytes (says r);
-    fault_member = λ {key = key} {iv = iv} {f = f} e. plain_member f (refusals (c.takes (length key)) (length iv) (started c (prepared c key iv)) f e);
+    fault_member = λ {key = key} {iv = iv} {f = f} e. plain_member f (faults key iv f e);
   }

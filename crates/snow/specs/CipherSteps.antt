@@ -1,11 +1,11 @@
 -- A cipher steps forth and back. Assumes nothing.
-use Rattle.std.specs.Prelude.{◌≡◌, ℕ, ◌+◌, ◌^◌, ◌<◌, List, ◌∷◌, ◌++◌}
+use Rattle.std.specs.Prelude.{◌≡◌, ℕ, ◌+◌, ◌^◌, ◌<◌, List, ◌∷◌, ◌++◌, length, take}
 use Rattle.std.proofs.Common.{sym, ap, subst, ◌∙◌, arith}
 use Rattle.std.proofs.lemmas.Nat.{xor_lt}
-use Rattle.std.proofs.lemmas.List.{length-drop}
+use Rattle.std.proofs.lemmas.List.{length-drop, take-append-drop}
 use Rattle.words.specs.Words.{◌⊕◌}
 use Rattle.words.proofs.Words.{fits_append, fits_drop, at_below}
-use Rattle.words.proofs.Spelled.{spell, spelled_front, fits_spell}
+use Rattle.words.proofs.Spelled.{spell, spelled_front, spelled_behind, fits_spell}
 use Rattle.fields.specs.Alpha.{over_alpha}
 use Rattle.generator.specs.Meaning.{State}
 use Rattle.snow.specs.Register.{at, feedback, plus}
@@ -23,6 +23,10 @@ parts n P s st = (
   record { count = length-drop 16 s ∙ omega (arith, st.count); fits = fits_drop (2 ^ 32) 16 s st.fits },
   subst P (sym (spelled_front 16 s (omega (arith, st.count)))),
 )
+
+-- a state is its register and the words behind it
+parted : (n : ℕ) (s : List ℕ) → length s ≡ 16 + n → take 16 s ++ spell n 16 s ≡ s
+parted n s len = ap (λ m. take 16 s ++ m) (sym (spelled_behind 16 n s len)) ∙ take-append-drop 16 s
 
 output_below : (n : ℕ) {m : List ℕ} (a : ℕ) → State n m → output m a < 2 ^ 32
 output_below n {m} a st = xor_lt 32 (plus a (at m 0)) (at m 1) (plus_below a (at m 0)) (at_below (2 ^ 32) m (omega arith) st.fits 1)

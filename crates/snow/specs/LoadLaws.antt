@@ -12,7 +12,7 @@ use Rattle.words.proofs.Spelled.{spell, by_words}
 use Rattle.generator.specs.Meaning.{State}
 use Rattle.snow.specs.Register.{at}
 use Rattle.snow.specs.Loading.{inverted, expanded_128, expanded_256, expanded, with_iv}
-use Rattle.snow.specs.Origins.{key_in, iv_in, Holds}
+use Rattle.snow.specs.Origins.{key_in, iv_in, iv_beside, Holds}
 
 inverted_twice : (w : ℕ) → inverted (inverted w) ≡ w
 inverted_twice w = go w 0xFFFFFFFF
@@ -30,7 +30,7 @@ joined_back k v = simp xors
 inverted_below : (w : ℕ) → w < 2 ^ 32 → inverted w < 2 ^ 32
 inverted_below w h = xor_lt 32 w 0xFFFFFFFF h (omega arith)
 
-inverted_fit : (ws : List ℕ) → Words ws → Words (map inverted ws)
+pub inverted_fit : (ws : List ℕ) → Words ws → Words (map inverted ws)
 inverted_fit [] fits = tt
 inverted_fit (w ∷ ws) fits = (inverted_below w fits.0, inverted_fit ws fits.1)
 
@@ -49,18 +49,24 @@ by_length n P k sizes len short long =
     ⊎_elim (λ e. subst (λ n. P n k (expanded k)) (sym e) (subst (P 4 k) (sym (expanded_short k (len ∙ e))) (short (len ∙ e))))
     (λ e. subst (λ n. P n k (expanded k)) (sym e) (subst (P 8 k) (sym (expanded_long k (len ∙ e))) (long (len ∙ e)))) sizes
 
+pub length_expanded : (n : ℕ) (k : List ℕ) → (n ≡ 4) ⊎ (n ≡ 8) → length k ≡ n → length (expanded k) ≡ 16
+length_expanded n k sizes len =
+    by_length n (λ n k e. length e ≡ 16) k sizes len
+    (λ len. by_words 4 (λ k. length (expanded_128 k) ≡ 16) k len refl)
+    (λ len. by_words 8 (λ k. length (expanded_256 k) ≡ 16) k len refl)
+
 pub expanded_state : (n : ℕ) (k : List ℕ) → (n ≡ 4) ⊎ (n ≡ 8) → State n k → State 16 (expanded k)
 expanded_state n k sizes st =
     let inv = inverted_fit k st.fits in
-    by_length n (λ n k e. State 16 e) k sizes st.count
-    (λ len. record {
-      count = by_words 4 (λ k. length (expanded_128 k) ≡ 16) k len refl;
-      fits = fits_append (2 ^ 32) (map inverted k) _ inv (fits_append (2 ^ 32) k _ st.fits (fits_append (2 ^ 32) (map inverted k) k inv st.fits));
-    })
-    (λ len. record { count = by_words 8 (λ k. length (expanded_256 k) ≡ 16) k len refl; fits = fits_append (2 ^ 32) (map inverted k) k inv st.fits })
+    record {
+      count = length_expanded n k sizes st.count;
+      fits = by_length n (λ n k e. Words e) k sizes st.count
+          (λ len. fits_append (2 ^ 32) (map inverted k) _ inv (fits_append (2 ^ 32) k _ st.fits (fits_append (2 ^ 32) (map inverted k) k inv st.fits)))
+          (λ len. fits_append (2 ^ 32) (map inverted k) k inv st.fits);
+    }
 
--- the key that is read off is the one that was expanded
-key_back : (n : ℕ) (k v : List ℕ) → (n ≡ 4) ⊎ (n ≡ 8) → length k ≡ n → key_in n (with_iv (expanded k) v) ≡ k
+-- the key and the IV that are read off are those that were put in
+pub key_back : (n : ℕ) (k v : List ℕ) → (n ≡ 4) ⊎ (n ≡ 8) → length k ≡ n → key_in n (with_iv (expanded k) v) ≡ k
 key_back n k v sizes len =
     by_length n (λ n k e. key_in n (with_iv e v) ≡ k) k sizes len
     (λ len. by_words 4 (λ k. key_in 4 (with_iv (expanded_128 k) v) ≡ k) k len
@@ -80,9 +86,9 @@ key_back n k v sizes len =
     let e7 = inverted_twice (at k 7) in
     cc))
 
--- and so is the IV
-iv_back : (e v : List ℕ) → length e ≡ 16 → length v ≡ 4 → iv_in e (with_iv e v) ≡ v
-iv_back e v len len' =
+-- the IV that is joined to an expanded key is read off beside it
+iv_joined : (e v : List ℕ) → length e ≡ 16 → length v ≡ 4 → iv_in e (with_iv e v) ≡ v
+iv_joined e v len len' =
     by_words 16 (λ e. iv_in e (with_iv e v) ≡ v) e len
     (by_words 4 (λ v. iv_in (spell 16 0 e) (with_iv (spell 16 0 e) v) ≡ v) v len'
     (let e0 = joined_back (at e 15) (at v 0) in
@@ -91,12 +97,13 @@ iv_back e v len len' =
     let e3 = joined_back (at e 9) (at v 3) in
     cc))
 
+pub iv_back : (n : ℕ) (k v : List ℕ) → (n ≡ 4) ⊎ (n ≡ 8) → length k ≡ n → length v ≡ 4 → iv_beside n (with_iv (expanded k) v) ≡ v
+iv_back n k v sizes len len' = ap (λ k'. iv_in (expanded k') (with_iv (expanded k) v)) (key_back n k v sizes len) ∙ iv_joined (expanded k) v (length_expanded n k sizes len) len'
+
 -- equal registers come from equal keys, of one length, and from equal IVs
-pub read_one : (n : ℕ) (k v k' v' : List ℕ) → (n ≡ 4) ⊎ (n ≡ 8) → State n k → State n k' → State 4 v → State 4 v' → with_iv (expanded k) v ≡ with_iv (expanded k') v' → (k ≡ k') × (v ≡ v')
-read_one n k v k' v' sizes sk sk' sv sv' e =
-    let key = sym (key_back n k v sizes sk.count) ∙ ap (key_in n) e ∙ key_back n k' v' sizes sk'.count in
-    let iv = sym (iv_back (expanded k) v (expanded_state n k sizes sk).count sv.count) ∙ ap₂ iv_in (ap expanded key) e ∙ iv_back (expanded k') v' (expanded_state n k' sizes sk').count sv'.count in
-    (key, iv)
+pub read_one : (n : ℕ) (k v k' v' : List ℕ) → (n ≡ 4) ⊎ (n ≡ 8) → length k ≡ n → length k' ≡ n → length v ≡ 4 → length v' ≡ 4 → with_iv (expanded k) v ≡ with_iv (expanded k') v' → (k ≡ k') × (v ≡ v')
+read_one n k v k' v' sizes lk lk' lv lv' e =
+    (sym (key_back n k v sizes lk) ∙ ap (key_in n) e ∙ key_back n k' v' sizes lk', sym (iv_back n k v sizes lk lv) ∙ ap (iv_beside n) e ∙ iv_back n k' v' sizes lk' lv')
 
 -- word 14 equals word 6 under a key of 128 bits, and is its inverse under one of 256
 pub lengths_apart : (k v k' v' : List ℕ) → length k ≡ 4 → length k' ≡ 8 → with_iv (expanded k) v ≢ with_iv (expanded k') v'
@@ -136,11 +143,9 @@ pub with_iv_state : (a v : List ℕ) → State 16 a → State 4 v → State 16 (
 with_iv_state a v sa sv = record { count = by_words 16 (λ a. length (with_iv a v) ≡ 16) a sa.count refl; fits = with_iv_fit a v sa.fits sv.fits }
 
 -- a register that holds a key and an IV is made of what is read off it
-pub held : (n : ℕ) (a k v : List ℕ) → (n ≡ 4) ⊎ (n ≡ 8) → State n k → length v ≡ 4 → a ≡ with_iv (expanded k) v → Holds n a
-held n a k v sizes sk len e =
-    let key = ap (key_in n) e ∙ key_back n k v sizes sk.count in
-    let iv = ap₂ iv_in (ap expanded key) e ∙ iv_back (expanded k) v (expanded_state n k sizes sk).count len in
-    ap₂ (λ k v. with_iv (expanded k) v) key iv ∙ sym e
+pub held : (n : ℕ) (a k v : List ℕ) → (n ≡ 4) ⊎ (n ≡ 8) → length k ≡ n → length v ≡ 4 → a ≡ with_iv (expanded k) v → Holds n a
+held n a k v sizes lk lv e =
+    ap₂ (λ k v. with_iv (expanded k) v) (ap (key_in n) e ∙ key_back n k v sizes lk) (ap (iv_beside n) e ∙ iv_back n k v sizes lk lv) ∙ sym e
 
 -- what is read off sixteen words is words
 pub key_state : (n : ℕ) (a : List ℕ) → n ≤ 16 → State 16 a → State n (key_in n a)
@@ -149,10 +154,12 @@ key_state n a low st = record {
   fits = inverted_fit (take n a) (fits_take (2 ^ 32) n a st.fits);
 }
 
-pub iv_state : (e a : List ℕ) → State 16 e → State 16 a → State 4 (iv_in e a)
-iv_state e a se sa =
-    let w = at_below (2 ^ 32) a (omega arith) sa.fits in
-    let x = at_below (2 ^ 32) e (omega arith) se.fits in
+pub iv_state : (n : ℕ) (a : List ℕ) → (n ≡ 4) ⊎ (n ≡ 8) → State 16 a → State 4 (iv_beside n a)
+iv_state n a sizes st =
+    let key = key_state n a (⊎_elim (λ e. omega arith) (λ e. omega arith) sizes) st in
+    let e = expanded (key_in n a) in
+    let w = at_below (2 ^ 32) a (omega arith) st.fits in
+    let x = at_below (2 ^ 32) e (omega arith) (expanded_state n (key_in n a) sizes key).fits in
     record {
       count = refl;
       fits = (xor_lt 32 (at a 15) (at e 15) (w 15) (x 15), (xor_lt 32 (at a 12) (at e 12) (w 12) (x 12), (xor_lt 32 (at a 10) (at e 10) (w 10) (x 10), (xor_lt 32 (at a 9) (at e 9) (w 9) (x 9), tt))));

@@ -3,6 +3,7 @@ ghost use Rattle.std.specs.Prelude.{◌≡◌, ◌*◌, ◌≤◌, ◌++◌, len
 ghost use Rattle.words.specs.Words.{words_bytes};
 ghost use Rattle.snow.specs.Register.{numbered};
 
+use std::array;
 use words::word_at;
 
 // The words of so many bytes, word 0 first: the bytes have the highest word first.
@@ -10,10 +11,7 @@ pub(crate) fn numbered_words<const N: usize>(bytes: &[u8]) -> [u32; N]
     requires { length bytes.now ≡ 4 * N }
     ensures { result ≡ numbered bytes.now }
 {
-    let mut words = [0; N];
-    for (place, word) in words.iter_mut().enumerate() {
-        *word = word_at(bytes, place);
-    }
+    let mut words: [u32; N] = array::from_fn(|place| word_at(bytes, place));
     words.reverse();
     words
 }

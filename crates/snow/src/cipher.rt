@@ -13,7 +13,7 @@ use crate::loading::{expand, name, with_iv};
 use crate::machines::Machine;
 use crate::refusals::FillFault;
 use crate::register::Register;
-use generator::{Fault, Generator, OriginFault};
+use generator::{Fault, Generator, OriginFault, have_room};
 
 #[derive(Clone, Copy)]
 pub struct Snow<M> {
@@ -150,7 +150,7 @@ impl<M: Machine> Generator for Snow<M> {
     }
 
     fn origin(&mut self, key: &mut [u8], iv: &mut [u8]) -> Result<(usize, usize), OriginFault> {
-        if key.len() < 255 || iv.len() < 255 {
+        if !have_room(key, iv) {
             return Err(OriginFault::ShortBuffer);
         }
         let mut start = *self;

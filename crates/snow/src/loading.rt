@@ -2,9 +2,11 @@
 ghost use Rattle.std.specs.Prelude.{◌≡◌, ℕ, ◌*◌, ◌≤◌, ◌⊎◌, length, MatchBool, ◌≢◌};
 ghost use Rattle.snow.specs.Register.{numbered};
 ghost use Rattle.snow.specs.Loading.{expanded, with_iv};
+ghost use Rattle.snow.specs.LoadLaws.{placed};
 ghost use Rattle.snow.specs.Origins.{key_in, iv_in, Read};
 
 use crate::bytes::put_words;
+use std::array;
 
 // Joined to a word, this inverts every bit.
 const ONES: u32 = 0xFFFF_FFFF;
@@ -14,16 +16,19 @@ pub(crate) fn expand<const N: usize>(key: &[u32; N]) -> [u32; 16]
     requires { (N ≡ 4) ⊎ (N ≡ 8) }
     ensures { result ≡ expanded key.now }
 {
-    let mut words = [0; 16];
-    for (place, word) in words.iter_mut().enumerate() {
-        let plain = key[place % N];
-        *word = if place / N % 2 == 0 {
-            plain ^ ONES
-        } else {
-            plain
-        };
-    }
-    words
+    array::from_fn(
+        |place: usize| -> u32
+            requires sizes { (N ≡ 4) ⊎ (N ≡ 8) }
+            ensures { result ≡ placed N key.entry.now place }
+        {
+            let plain = key[place % N];
+            if place / N % 2 == 0 {
+                plain ^ ONES
+            } else {
+                plain
+            }
+        },
+    )
 }
 
 pub(crate) fn with_iv(words: &[u32; 16], iv: &[u32; 4]) -> [u32; 16]
@@ -42,11 +47,7 @@ fn key_in<const N: usize>(words: &[u32; 16]) -> [u32; N]
     requires { N ≤ 16 }
     ensures { result ≡ key_in N words.now }
 {
-    let mut key = [0; N];
-    for (place, word) in key.iter_mut().enumerate() {
-        *word = words[place] ^ ONES;
-    }
-    key
+    array::from_fn(|place| words[place] ^ ONES)
 }
 
 // The IV that is joined to words of an expanded key.

@@ -7,7 +7,7 @@ ghost use Rattle.snow.specs.RegisterLaws.{register_lawful, register_fits};
 use crate::bytes::{numbered_words, put_words};
 use crate::refusals::FillFault;
 use fields::{over_alpha, times_alpha};
-use generator::{Fault, Generator, OriginFault};
+use generator::{Fault, Generator, OriginFault, have_room};
 
 // Sixteen words, a0 first.
 #[derive(Clone, Copy)]
@@ -126,7 +126,7 @@ impl Generator for Register {
     }
 
     fn origin(&mut self, key: &mut [u8], iv: &mut [u8]) -> Result<(usize, usize), OriginFault> {
-        if key.len() < 255 || iv.len() < 255 {
+        if !have_room(key, iv) {
             return Err(OriginFault::ShortBuffer);
         }
         let mut words = self.words;

@@ -2,3 +2,4 @@ pub mod Xors
 pub mod Words
 pub mod Spelled
 pub mod Bytes
+pub mod FromFn

@@ -1,5 +1,5 @@
 -- A list of known length, written out element by element. Assumes nothing.
-use Rattle.std.proofs.Common.{◌≡◌, ℕ, zero, suc, ◌<◌, ◌≤◌, List, [], ◌∷◌, ◌++◌, length, get_or, drop, sym, refl, ap, ◌∙◌, subst, arith}
+use Rattle.std.proofs.Common.{◌≡◌, ℕ, zero, suc, ◌+◌, ◌<◌, ◌≤◌, List, [], ◌∷◌, ◌++◌, length, get_or, drop, sym, refl, ap, ◌∙◌, subst, arith}
 use Rattle.words.specs.Words.{AllBelow}
 
 -- n elements from place i on
@@ -26,6 +26,12 @@ pub spelled_front : (n : ℕ) (xs : List ℕ) → n ≤ length xs → xs ≡ spe
 spelled_front zero xs h = refl
 spelled_front (suc n) [] h = absurd (omega arith)
 spelled_front (suc n) (x ∷ xs) h = ap (λ ys. x ∷ ys) (spelled_front n xs (omega arith) ∙ ap (λ ys. ys ++ drop n xs) (sym (spell_rest n 0 x xs)))
+
+-- the elements behind the first i, written out
+pub spelled_behind : (i n : ℕ) (xs : List ℕ) → length xs ≡ i + n → drop i xs ≡ spell n i xs
+spelled_behind zero n xs h = spelled n xs (omega (arith, h))
+spelled_behind (suc i) n [] h = absurd (omega arith)
+spelled_behind (suc i) n (x ∷ xs) h = spelled_behind i n xs (omega arith) ∙ sym (spell_rest n i x xs)
 
 pub fits_spell : (b n i : ℕ) (xs : List ℕ) → ((k : ℕ) → get_or xs k 0 < b) → AllBelow b (spell n i xs)
 fits_spell b zero i xs all = tt

@@ -1,6 +1,5 @@
-use Rattle.std.proofs.Common.{◌≡◌, ◌+◌, ◌-◌, ◌*◌, ◌++◌, length, get_or, take, drop, ap, ap₂, ◌∙◌, arith}
-use Rattle.std.proofs.lemmas.List.{take_all, drop-drop}
-use Rattle.words.specs.Words.{words_bytes}
+use Rattle.std.proofs.Common.{◌≡◌, ◌+◌, ◌-◌, ◌*◌, ◌++◌, get_or, take, drop, ap, ap₂, ◌∙◌, arith}
+use Rattle.std.proofs.lemmas.List.{drop-drop}
 use Rattle.words.proofs.Words.{be_bytes}
 use Rattle.snow.proofs.Written.{word_more}
 use Rattle.snow.proofs.bytes.put_words.Goals as goal
@@ -14,9 +13,3 @@ loop-place-preserved c =
     let bytes = c.copy_from_slice.ensures.after ∙ c.to_be_bytes.ensures ∙ be_bytes w in
     ap₂ (λ xs ys. take at buffer ++ (xs ++ ys)) bytes (drop-drop (at + 4 - at) at buffer ∙ ap (λ n. drop n buffer) four)
     ∙ word_more c.args.words.now c.args.buffer.now buffer c.loop-place.place (omega arith) (omega (arith, c.requires)) c.loop-place.invariant
-
-pub returns : goal.returns
-returns c =
-    let ws = c.args.words.now in
-    let end : c.loop-place.place ≡ length ws = omega arith in
-    c.loop-place.invariant ∙ ap (λ n. words_bytes (take n ws) ++ drop (4 * n) c.args.buffer.now) end ∙ ap (λ xs. words_bytes xs ++ drop (4 * length ws) c.args.buffer.now) (take_all (length ws) ws (omega arith))
