@@ -1,39 +1,16 @@
 -- What loading and origin of a pair answer, from what its members answer. Assumes nothing.
-use Rattle.std.proofs.Common.{◌≡◌, ℕ, ◌+◌, ◌<◌, ◌≤◌, true, ◌⊎◌, List, ◌++◌, length, take, replicate, is_err, IsErrAnd, Ok, Err, Result, sym, refl, ap, ◌∙◌, subst, ⊎_elim, arith}
-use Rattle.std.proofs.lemmas.List.{take_at, replicate-append-replicate}
-use Rattle.generator.specs.declared.Fault.{Fault}
+use Rattle.std.proofs.Common.{◌≡◌, ℕ, ◌+◌, ◌<◌, ◌≤◌, ◌⊎◌, List, ◌++◌, length, IsErrAnd, Ok, Err, Result, sym, refl, ap, ◌∙◌, subst, ⊎_elim, arith}
 use Rattle.generator.specs.declared.OriginFault.{OriginFault}
 use Rattle.generator.specs.declared.OriginFault.TheVariants.{NoOrigin}
-use Rattle.generator.specs.Meaning.{Meaning, Lawful, Reaches, State, zeros}
-use Rattle.generator.specs.Calls.{Loaded, Named, AtFront, Roomy}
+use Rattle.generator.specs.Meaning.{Meaning, Lawful, Reaches, State}
+use Rattle.generator.specs.Calls.{Named, AtFront, Roomy}
 use Rattle.layers.specs.Origins.{Names}
-use Rattle.layers.specs.Pair.{joined, pair, BothLoaded}
+use Rattle.layers.specs.Pair.{joined, pair}
 use Rattle.layers.specs.PairParts.{BothReach, apart_at, together}
-
-pub both_cleared : (a b : Meaning) (s t : List ℕ) → s ≡ zeros a → t ≡ zeros b → s ++ t ≡ zeros (pair a b)
-both_cleared a b s t e e' = ap (λ x. x ++ t) e ∙ ap (λ x. zeros a ++ x) e' ∙ replicate-append-replicate a.size b.size 0
-
-pub refused : (a b : Meaning) (key iv : List ℕ) (r : Result Unit Fault) (s t after : List ℕ) → BothLoaded a b key iv r s t → is_err r ≡ true → after ≡ zeros (pair a b) → Loaded (pair a b) key iv r after
-refused a b key iv r s t after p err e = go ((pair a b).load key iv) refl
-  where
-    go : (x : Result (List ℕ) Fault) → (pair a b).load key iv ≡ x → Loaded (pair a b) key iv r after
-    go (Ok u) q = let told = rw (q, BothLoaded) at p in let z : ◌≡◌ {A = ℕ} 0 1 = cc in absurd (omega arith)
-    go (Err f) q = let told = rw (q, BothLoaded) at p in rw (q, Loaded) (told, e)
 
 -- the same by equal keys and IVs
 pub reaches_by : {m : Meaning} {x y x' y' s : List ℕ} → x ≡ x' → y ≡ y' → Reaches m x' y' 0 s → Reaches m x y 0 s
 reaches_by {m} {x} {y} {x'} {y'} {s} e e' r = subst (λ l. Reaches m l y 0 s) (sym e) (subst (λ l. Reaches m x' l 0 s) (sym e') r)
-
--- the buffers that a member is lent
-abbrev lent : List ℕ
-lent = replicate 255 0
-
--- what a member wrote to the front of them
-pub found : (m : Meaning) (s : List ℕ) (n n' : ℕ) (key iv : List ℕ) → Named m 0 s lent lent (Ok (n, n')) key iv → Reaches m (take n key) (take n' iv) 0 s
-found m s n n' key iv named =
-    let count : length named.1.0 ≡ n = sym (ap (λ p. p.0) named.1.3) in
-    let count' : length named.1.1 ≡ n' = sym (ap (λ p. p.1) named.1.3) in
-    reaches_by (ap (take n) named.1.4 ∙ take_at named.1.0 _ n count) (ap (take n') named.1.5 ∙ take_at named.1.1 _ n' count') named.1.2
 
 -- the fault that a `?` hands on
 pub handed_on : {X : Type 0} (r : Result X OriginFault) (f : OriginFault) → IsErrAnd r (λ e. e ≡ f) → r ≡ Err f

@@ -3,7 +3,7 @@ ghost use Rattle.std.specs.Prelude.{◌≡◌};
 ghost use Rattle.layers.specs.Origins.{Names};
 
 use crate::short::Short;
-use generator::{Generator, OriginFault};
+use generator::{Generator, LONGEST, OriginFault};
 
 // A key and an IV.
 #[derive(Drop)]
@@ -17,8 +17,8 @@ pub(crate) fn origin_of<G: Generator>(generator: &mut G) -> Result<Origin, Origi
     ensures named { Names G.meaning (G.state generator.old) result }
     ensures same { G.state generator.new ≡ G.state generator.old }
 {
-    let mut key = [0; 255];
-    let mut iv = [0; 255];
+    let mut key = [0; LONGEST];
+    let mut iv = [0; LONGEST];
     let (key_len, iv_len) = generator.origin(&mut key, &mut iv)?;
     Ok(Origin {
         key: Short::new(key, key_len),

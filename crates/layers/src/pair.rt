@@ -5,7 +5,7 @@ ghost use Rattle.layers.specs.PairParts.{joined_state};
 
 use crate::origins::origin_of;
 use crate::parts::{at_place, join, split};
-use generator::{Fault, Generator, OriginFault};
+use generator::{Fault, Generator, OriginFault, have_room};
 
 // Two generators that run side by side; the exclusive or of their words is its keystream.
 #[derive(Drop)]
@@ -84,7 +84,7 @@ impl<A: Generator, B: Generator> Generator for Pair<A, B> {
 
     // Nothing is written before both are named, since a refusal leaves the buffers as they are.
     fn origin(&mut self, key: &mut [u8], iv: &mut [u8]) -> Result<(usize, usize), OriginFault> {
-        if key.len() < 255 || iv.len() < 255 {
+        if !have_room(key, iv) {
             return Err(OriginFault::ShortBuffer);
         }
         let first = origin_of(&mut self.first)?;

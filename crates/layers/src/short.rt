@@ -1,11 +1,12 @@
 ghost use Rattle.std.specs.Prelude.{◌≡◌, ℕ, ◌≤◌, List, take};
 
+use generator::LONGEST;
 use std::marker::Model;
 
-// At most 255 bytes, seen as the list of them.
+// A key or an IV of any generator, seen as the list of them.
 #[derive(Drop)]
 pub(crate) struct Short {
-    bytes: [u8; 255],
+    bytes: [u8; LONGEST],
     len: usize,
 }
 
@@ -18,7 +19,7 @@ impl Model for Short {
 }
 
 impl Short {
-    pub(crate) fn new(bytes: [u8; 255], len: usize) -> Short
+    pub(crate) fn new(bytes: [u8; LONGEST], len: usize) -> Short
         requires { len ≤ 255 }
         ensures { result ≡ take len bytes }
     {

@@ -4,10 +4,7 @@ ghost use Rattle.session.specs.Calls.{Traced};
 
 use crate::refusals::TraceFault;
 use crate::steps::origin_before;
-use generator::Generator;
-
-// Each buffer for a key or an IV has room for the longest.
-const ROOM: usize = 255;
+use generator::{Generator, have_room};
 
 // The most words that a trace goes back.
 const MOST_WORDS: u64 = 1 << 20;
@@ -23,7 +20,7 @@ pub fn trace<G: Generator>(
     ensures traced { Traced G.Generator.meaning n (G.Generator.state generator.old) key.old iv.old result key.new iv.new }
     ensures same { G.Generator.state generator.new ≡ G.Generator.state generator.old }
 {
-    if key.len() < ROOM || iv.len() < ROOM {
+    if !have_room(key, iv) {
         return Err(TraceFault::ShortBuffer);
     }
     if n > MOST_WORDS {
