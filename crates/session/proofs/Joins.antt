@@ -100,12 +100,6 @@ module _ (m : Meaning) (s : List ℕ) (p : ℕ) where
           subst (λ n. get_or z n 0 ≡ bit_xor (get_or x n 0) (stream_byte m (placed s p) i)) place
           (second.window j h ∙ ap₂ bit_xor (first.rest (start + a + j) (omega arith)) (stream_on a j ∙ ap (stream_byte m (placed s p)) (sym e)))
 
-  pub ahead_none : s ≡ ahead m (placed s p) 0
-  ahead_none = ap (λ n. times n m.next s) (let none : 0 ≡ (p + 0) / 4 - p / 4 = omega arith in none)
-
-  pub joined_none : (start : ℕ) (x : List ℕ) → Joined m (placed s p) start 0 x x
-  joined_none start x = record { same_length = refl; window = λ i h. absurd (omega arith); front = λ i h. refl; rest = λ i h. refl }
-
   -- the bytes of the word that a word's beginning has
   word_byte : p % 4 ≡ 0 → (w a : ℕ) → w ≡ m.word s → a < 4 → byte_of w a ≡ stream_byte m (placed s p) a
   word_byte start w a e h =
