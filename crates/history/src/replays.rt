@@ -4,7 +4,7 @@ ghost use Rattle.history.specs.Laws.{SessionLaws};
 ghost use Rattle.history.specs.Replays.{Does, Replayed, Stopped};
 
 use crate::requests::{Answer, Request};
-use generator::Generator;
+use generator::{Generator, LONGEST};
 use session::Session;
 use std::alloc::{AllocError, Global};
 use words::are_bytes;
@@ -41,8 +41,8 @@ fn perform<G: Generator>(
         Request::StepBack(n) => Ok(Answer::Done(session.step_back(*n))),
         Request::Position => Ok(Answer::Place(session.position())),
         Request::Origin => {
-            let mut key = vec![in heap; 0; 255]?;
-            let mut iv = vec![in heap; 0; 255]?;
+            let mut key = vec![in heap; 0; LONGEST]?;
+            let mut iv = vec![in heap; 0; LONGEST]?;
             let named = session.origin(&mut key, &mut iv);
             Ok(Answer::Names(named, key, iv))
         }

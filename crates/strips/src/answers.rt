@@ -7,12 +7,9 @@ ghost use Rattle.strips.specs.Replies.{reply_room};
 
 use crate::bytes::put;
 use crate::orders::Order;
-use generator::Generator;
+use generator::{Generator, LONGEST};
 use session::{Refusal, Session};
 use words::are_bytes;
-
-// The longest key or IV.
-const LONGEST: usize = 255;
 
 // Opens with a copy of the key, which the session wipes.
 fn answer_opening<G: Generator>(

@@ -1,16 +1,12 @@
-use Rattle.std.proofs.Common.{◌≡◌, replicate, vec_items, sym, refl, ◌∙◌, subst, rules}
+use Rattle.std.proofs.Common.{◌≡◌, replicate, vec_items, sym, ◌∙◌, subst, rules}
 use Rattle.std.specs.Vec.{with_items}
 use Rattle.std.proofs.lemmas.List.{with_items_is}
-use Rattle.std.proofs.lemmas.Result.{MatchResult-from_err}
 use Rattle.session.specs.Calls.{Opened, Applied}
 use Rattle.history.specs.declared.requests.Request.TheVariants.{Origin}
 use Rattle.history.specs.declared.requests.Answer.TheVariants.{Names}
 use Rattle.history.specs.Replays.{Does, opens, applies, elsewhere, skips, steps_back, asks_place, asks_origin, closes}
 use Rattle.history.proofs.Runs.{as_asked, origin_over}
 use Rattle.history.proofs.replays.perform.Goals as goal
-
-pub returns-in_err-iv-in-Origin : goal.returns-in_err-iv-in-Origin
-returns-in_err-iv-in-Origin g c = MatchResult-from_err c.from_residual-in_err-iv-in-Origin.result _ _ c.from_residual-in_err-iv-in-Origin.ensures.0 (λ _. (refl, refl))
 
 pub returns-in_ok-copy-in-Open : goal.returns-in_ok-copy-in-Open
 returns-in_ok-copy-in-Open g c =

@@ -1,4 +1,4 @@
-use Rattle.std.proofs.Common.{◌≡◌, ℕ, ◌-◌, List, ◌∷◌, ◌++◌, take, replicate, Ok, Err, sym, ◌∙◌, subst, ap₂, arith}
+use Rattle.std.proofs.Common.{◌≡◌, ℕ, ◌-◌, List, ◌∷◌, ◌++◌, take, replicate, Ok, Err, sym, ◌∙◌, subst, ap₂}
 use Rattle.strips.specs.Orders.{naming}
 use Rattle.strips.specs.Answered.{Answered, asks_origin}
 use Rattle.strips.proofs.Puts.{front_part}
@@ -9,24 +9,6 @@ pub returns-in_err-key_len-clause-answered : goal.returns-in_err-key_len-clause-
 returns-in_err-key_len-clause-answered g c =
     let e = c.in_err-key_len.field-0.0 in
     refused c.from_residual.result _ e c.from_residual.ensures.1 (same_session c.origin.ensures.same (asks_origin (Err e) c.origin.new.key c.origin.new.iv c.in_err-key_len.ensures.named))
-
-pub slice_bounds-put_names-end : goal.slice_bounds-put_names-end
-slice_bounds-put_names-end g c =
-    let v = c.args.session.now in
-    (origin_short g.G.Generator.meaning v (replicate 255 0) (replicate 255 0) (c.in_ok-key_len.key_len, c.in_ok-key_len.iv_len) c.origin.new.key c.origin.new.iv c.in_ok-key_len.ensures.named).0
-
-pub slice_bounds-put_names-end-2 : goal.slice_bounds-put_names-end-2
-slice_bounds-put_names-end-2 g c =
-    let v = c.args.session.now in
-    (origin_short g.G.Generator.meaning v (replicate 255 0) (replicate 255 0) (c.in_ok-key_len.key_len, c.in_ok-key_len.iv_len) c.origin.new.key c.origin.new.iv c.in_ok-key_len.ensures.named).1
-
-pub put_names-requires : goal.put_names-requires
-put_names-requires g c =
-    let v = c.args.session.now in
-    let short = origin_short g.G.Generator.meaning v (replicate 255 0) (replicate 255 0) (c.in_ok-key_len.key_len, c.in_ok-key_len.iv_len) c.origin.new.key c.origin.new.iv c.in_ok-key_len.ensures.named in
-    let key = (front_part c.in_ok-key_len.key_len c.origin.new.key short.0).1 in
-    let iv = (front_part c.in_ok-key_len.iv_len c.origin.new.iv short.1).1 in
-    (omega arith, (omega (arith, c.origin.auto.key), omega (arith, c.origin.auto.iv)))
 
 pub returns-clause-answered : goal.returns-clause-answered
 returns-clause-answered g c =
