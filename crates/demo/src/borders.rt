@@ -1,23 +1,22 @@
 // Calls at the border of what is accepted.
+use crate::show;
+use crate::show::Refused;
+use generator::LONGEST;
 use session::{Refusal, Session};
 use snow::{Snow2, label};
 
+// Whether a call was done, by the number alone where it was refused.
 fn tell(rt: &HostRuntime, call: &str, answer: Result<(), Refusal>) -> anyhow::Result<()> {
-    match answer {
-        Ok(()) => {
-            println!(rt; "  {call}: done")?;
-        }
-        Err(refusal) => {
-            let number = refusal.number();
-            println!(rt; "  {call}: refused with {number}")?;
-        }
-    }
-    Ok(())
+    show::done(
+        rt,
+        call,
+        answer.map_err(|refusal| Refused::with(refusal.number())),
+    )
 }
 
 fn refused_origin(session: &mut Session<Snow2>) -> Result<(), Refusal> {
-    let mut key = [0u8; 255];
-    let mut iv = [0u8; 254];
+    let mut key = [0; LONGEST];
+    let mut iv = [0; LONGEST - 1];
     session.origin(&mut key, &mut iv)?;
     Ok(())
 }
@@ -73,10 +72,10 @@ fn session_borders(rt: &HostRuntime) -> anyhow::Result<()> {
 
 fn tell_label(rt: &HostRuntime, key: &[u8], iv: &[u8], number: usize) -> anyhow::Result<()> {
     match label(key, iv, number) {
-        Ok(part) => crate::show::bytes(rt, "label", part),
+        Ok(part) => show::bytes(rt, "label", part),
         Err(fault) => {
-            let refusal = fault.number();
-            println!(rt; "  label {number}: refused with {refusal}")?;
+            let refused = Refused::with(fault.number());
+            println!(rt; "  label {number}: {refused}")?;
             Ok(())
         }
     }

@@ -1,5 +1,6 @@
 // The bare register: a load, its words, the way back, and its origin.
 use crate::show;
+use crate::show::Refused;
 use snow::Register;
 
 pub(crate) fn demonstrate(rt: &HostRuntime) -> anyhow::Result<()> {
@@ -12,9 +13,10 @@ pub(crate) fn demonstrate(rt: &HostRuntime) -> anyhow::Result<()> {
     let mut register = Register::new();
     show::keystream(rt, &mut register, &key, &[], 17)?;
     println!(rt; "Register, filled with fifteen words")?;
-    if let Err(fault) = register.fill(&[7u32; 15]) {
-        let number = fault.number();
-        println!(rt; "  fill: refused with {number}")?;
-    }
-    Ok(())
+    let filled = register.fill(&[7u32; 15]);
+    show::done(
+        rt,
+        "fill",
+        filled.map_err(|fault| Refused::with(fault.number())),
+    )
 }

@@ -1,7 +1,8 @@
 // Lists of calls on one session, and a trace.
 use crate::show;
+use crate::show::Refused;
 use anyhow::anyhow;
-use generator::Generator;
+use generator::{Generator, LONGEST};
 use history::{Answer, Request, replay};
 use session::{Refusal, trace};
 use snow::Snow2;
@@ -10,21 +11,8 @@ const KEY: [u8; 16] = [0xAA; 16];
 
 const IV: [u8; 16] = [0, 0, 0, 4, 0, 0, 0, 3, 0, 0, 0, 2, 0, 0, 0, 1];
 
-fn tell(rt: &HostRuntime, call: &str, refusal: Refusal) -> anyhow::Result<()> {
-    let number = refusal.number();
-    let member = refusal.member();
-    println!(rt; "  {call}: refused with {number}, member {member}")?;
-    Ok(())
-}
-
 fn done(rt: &HostRuntime, call: &str, answer: &Result<(), Refusal>) -> anyhow::Result<()> {
-    match answer {
-        Ok(()) => {
-            println!(rt; "  {call}: done")?;
-            Ok(())
-        }
-        Err(refusal) => tell(rt, call, *refusal),
-    }
+    show::done(rt, call, (*answer).map_err(Refused::from))
 }
 
 fn report(rt: &HostRuntime, call: &str, answer: &Answer) -> anyhow::Result<()> {
@@ -38,13 +26,14 @@ fn report(rt: &HostRuntime, call: &str, answer: &Answer) -> anyhow::Result<()> {
             println!(rt; "  {call}: {position}")?;
             Ok(())
         }
-        Answer::Place(Err(refusal)) => tell(rt, call, *refusal),
+        Answer::Place(Err(refusal)) | Answer::Names(Err(refusal), _, _) => {
+            done(rt, call, &Err(*refusal))
+        }
         Answer::Names(Ok((key_len, iv_len)), key, iv) => {
             println!(rt; "  {call}: {key_len} and {iv_len} bytes")?;
             show::front(rt, "  key", key.as_slice(), *key_len)?;
             show::front(rt, "  IV", iv.as_slice(), *iv_len)
         }
-        Answer::Names(Err(refusal), _, _) => tell(rt, call, *refusal),
     }
 }
 
@@ -105,8 +94,8 @@ fn replay_calls(rt: &HostRuntime) -> anyhow::Result<()> {
 }
 
 fn trace_once(rt: &HostRuntime, generator: &mut Snow2, words: u64) -> anyhow::Result<()> {
-    let mut key = [0u8; 255];
-    let mut iv = [0u8; 255];
+    let mut key = [0; LONGEST];
+    let mut iv = [0; LONGEST];
     match trace(generator, words, &mut key, &mut iv) {
         Ok((key_len, iv_len)) => {
             println!(rt; "  {words} words back: found")?;
@@ -114,8 +103,8 @@ fn trace_once(rt: &HostRuntime, generator: &mut Snow2, words: u64) -> anyhow::Re
             show::front(rt, "  IV", &iv, iv_len)
         }
         Err(fault) => {
-            let number = fault.number();
-            println!(rt; "  {words} words back: refused with {number}")?;
+            let refused = Refused::with(fault.number());
+            println!(rt; "  {words} words back: {refused}")?;
             Ok(())
         }
     }

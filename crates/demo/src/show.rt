@@ -1,6 +1,62 @@
-// Printing of bytes, words and origins.
+// Printing of bytes, words, origins and refusals.
 use anyhow::Context;
-use generator::Generator;
+use generator::{Fault, Generator, LONGEST};
+use session::Refusal;
+use std::fmt;
+
+// A refusal as it is printed: its number, and the member of a combined generator where that is told.
+#[derive(Clone, Copy)]
+pub(crate) struct Refused {
+    number: u8,
+    member: Option<u8>,
+}
+
+impl Refused {
+    pub(crate) fn with(number: u8) -> Refused {
+        Refused {
+            number,
+            member: None,
+        }
+    }
+}
+
+impl From<Refusal> for Refused {
+    fn from(refusal: Refusal) -> Refused {
+        Refused {
+            number: refusal.number(),
+            member: Some(refusal.member()),
+        }
+    }
+}
+
+impl From<Fault> for Refused {
+    fn from(fault: Fault) -> Refused {
+        Refused::from(Refusal::from(fault))
+    }
+}
+
+impl fmt::Display for Refused {
+    fn fmt<W: fmt::Write>(&self, f: &mut fmt::Formatter<W>) -> fmt::Result {
+        write!(f, "refused with {}", self.number)?;
+        match self.member {
+            Some(member) => write!(f, ", member {member}"),
+            None => Ok(()),
+        }
+    }
+}
+
+// Whether a call was done.
+pub(crate) fn done(
+    rt: &HostRuntime,
+    call: &str,
+    answer: Result<(), Refused>,
+) -> anyhow::Result<()> {
+    match answer {
+        Ok(()) => println!(rt; "  {call}: done")?,
+        Err(refused) => println!(rt; "  {call}: {refused}")?,
+    }
+    Ok(())
+}
 
 pub(crate) fn bytes(rt: &HostRuntime, label: &str, bytes: &[u8]) -> anyhow::Result<()> {
     print!(rt; "  {label}:")?;
@@ -24,18 +80,14 @@ pub(crate) fn front(
 
 // The key and the IV behind the present state.
 pub(crate) fn origin<G: Generator>(rt: &HostRuntime, generator: &mut G) -> anyhow::Result<()> {
-    let mut key = [0u8; 255];
-    let mut iv = [0u8; 255];
+    let mut key = [0; LONGEST];
+    let mut iv = [0; LONGEST];
     match generator.origin(&mut key, &mut iv) {
         Ok((key_len, iv_len)) => {
             front(rt, "origin: key", &key, key_len)?;
             front(rt, "origin: IV", &iv, iv_len)
         }
-        Err(fault) => {
-            let number = fault.number();
-            println!(rt; "  origin: refused with {number}")?;
-            Ok(())
-        }
+        Err(fault) => done(rt, "origin", Err(Refused::with(fault.number()))),
     }
 }
 
@@ -48,10 +100,7 @@ pub(crate) fn keystream<G: Generator>(
     words: u32,
 ) -> anyhow::Result<()> {
     if let Err(fault) = generator.load(key, iv) {
-        let number = fault.number();
-        let member = fault.member();
-        println!(rt; "  load: refused with {number}, member {member}")?;
-        return Ok(());
+        return done(rt, "load", Err(Refused::from(fault)));
     }
     for n in 0..words {
         let word = generator.word();

@@ -3,7 +3,7 @@
 use Rattle.std.specs.Prelude.{ℕ, ◌+◌, ◌-◌, ◌*◌, ◌/◌, ◌%◌, ◌^◌, ◌<◌, ◌≤◌, Bool, cond, ◌&&◌, List, length, take, drop, Ok, Err, Result, ◌==◌, nat_le, nat_lt}
 use Rattle.std.specs.List.{list_all}
 use Rattle.words.specs.Words.{word_at}
-use Rattle.strips.specs.declared.orders.Order.{Order}
+use Rattle.strips.specs.declared.orders.Entry.{Entry}
 use Rattle.strips.specs.declared.stops.Stop.{Stop}
 use Rattle.strips.specs.declared.stops.Stop.TheVariants.{CutShort, BadWord}
 use Rattle.strips.specs.Orders.{Asked, ending, opening, applying, skipping, going_back, placing, naming, closing, asked}
@@ -68,8 +68,8 @@ reads strip place =
     cond (nat_le (length strip / 4) place) (stop CutShort) (by_kind strip place (word_at strip place / 2 ^ 28) (word_at strip place % 2 ^ 28))
 
 -- what the code answers, as a reading
-abbrev pub reading : Result (Order × ℕ) Stop → Reading
-reading (Ok read) = order (asked read.0) read.1
+abbrev pub reading : Result Entry Stop → Reading
+reading (Ok e) = order (asked e.order) e.words
 reading (Err s) = stop s
 
 -- a key or a payload of at most n bytes
@@ -84,6 +84,6 @@ Small n naming = Unit {0}
 Small n closing = Unit {0}
 
 -- an order that was read lies within the strip
-abbrev pub Within : List ℕ → ℕ → Result (Order × ℕ) Stop → Type 0
-Within strip place (Ok read) = (place + read.1 ≤ length strip / 4) × (0 < read.1) × Small (length strip) (asked read.0)
+abbrev pub Within : List ℕ → ℕ → Result Entry Stop → Type 0
+Within strip place (Ok e) = (place + e.words ≤ length strip / 4) × (0 < e.words) × Small (length strip) (asked e.order)
 Within strip place (Err s) = Unit {0}

@@ -2,7 +2,7 @@
 ghost use Rattle.std.specs.Prelude.{◌≡◌, ◌+◌, ◌/◌, ◌<◌, ◌≤◌, cond, length};
 ghost use Rattle.strips.specs.Reading.{reading, reads, Within};
 
-use crate::orders::Order;
+use crate::orders::Entry;
 use crate::stops::Stop;
 use crate::strip::Strip;
 
@@ -41,8 +41,8 @@ impl<'a> Cursor<'a> {
         self.refused
     }
 
-    // The next order, with its size in words.
-    pub(crate) fn order(&self) -> Result<(Order<'a>, usize), Stop>
+    // The next order.
+    pub(crate) fn order(&self) -> Result<Entry<'a>, Stop>
         ensures reads { reading result ≡ reads self.now.strip.bytes.now self.now.place }
         ensures within { Within self.now.strip.bytes.now self.now.place result }
     {

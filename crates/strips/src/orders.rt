@@ -6,6 +6,22 @@ ghost use Rattle.strips.specs.Runs.{is_end};
 
 use crate::strip::words_for;
 
+// An order with its size in words.
+#[derive(Clone, Copy)]
+pub(crate) struct Entry<'a> {
+    pub(crate) order: Order<'a>,
+    pub(crate) words: usize,
+}
+
+impl<'a> Entry<'a> {
+    // An order that is its word alone.
+    pub(crate) fn of_one_word(order: Order<'a>) -> Entry<'a>
+        ensures { result ≡ record { order = order.entry; words = 1 } }
+    {
+        Entry { order, words: 1 }
+    }
+}
+
 // An order of a strip: a call of a session, or the strip's end. Keys, IVs and payloads are parts of the strip.
 #[derive(Clone, Copy)]
 pub(crate) enum Order<'a> {

@@ -9,7 +9,7 @@ ghost use Rattle.strips.specs.Turns.{SameBuffer, Begins, Holds, Turned, Onward, 
 
 use crate::answers::answer;
 use crate::cursor::Cursor;
-use crate::orders::Order;
+use crate::orders::{Entry, Order};
 use crate::replies::Replies;
 use crate::stops::{Report, Stop};
 use crate::strip::{MOST_BYTES, Strip};
@@ -36,8 +36,8 @@ impl<'a, G: Generator> Running<'a, G> {
         }
         let cursor = self.cursor;
         let place = cursor.place();
-        let (order, words) = match cursor.order() {
-            Ok(read) => read,
+        let Entry { order, words } = match cursor.order() {
+            Ok(entry) => entry,
             Err(stop) => {
                 replies.put_refusal(stop.number(), 0, place);
                 return Err(stop);

@@ -6,7 +6,7 @@ ghost use Rattle.strips.specs.Reading.{filled, part, words_for, reading, reads, 
 ghost use Rattle.strips.specs.Runs.{bad_length};
 
 use crate::bytes::is_zero;
-use crate::orders::Order;
+use crate::orders::{Entry, Order};
 use crate::stops::Stop;
 
 // The longest strip, in bytes.
@@ -64,7 +64,7 @@ impl<'a> Strip<'a> {
 
     // The body of an opening whose word has these bits: a limit, a key and an IV.
     #[tactic(auto, unfolding(crate::specs::Reading::reads_opening))]
-    fn read_opening(&self, place: usize, bits: usize) -> Result<(Order<'a>, usize), Stop>
+    fn read_opening(&self, place: usize, bits: usize) -> Result<Entry<'a>, Stop>
         requires { (place < length self.now.bytes.now / 4) × (bits < 2 ^ 28) }
         ensures reads { reading result ≡ reads_opening self.now.bytes.now place bits }
         ensures within { Within self.now.bytes.now place result }
@@ -80,12 +80,13 @@ impl<'a> Strip<'a> {
         let key = self.part(key_at, key_len)?;
         let iv = self.part(iv_at, iv_len)?;
         let limit = u64::from(self.word(place + 1));
-        Ok((Order::Open { key, iv, limit }, words))
+        let order = Order::Open { key, iv, limit };
+        Ok(Entry { order, words })
     }
 
     // The payload of so many bytes that follows the order's word.
     #[tactic(auto, unfolding(crate::specs::Reading::reads_payload))]
-    fn read_payload(&self, place: usize, count: usize) -> Result<(Order<'a>, usize), Stop>
+    fn read_payload(&self, place: usize, count: usize) -> Result<Entry<'a>, Stop>
         requires { (place < length self.now.bytes.now / 4) × (count < 2 ^ 28) }
         ensures reads { reading result ≡ reads_payload self.now.bytes.now place count }
         ensures within { Within self.now.bytes.now place result }
@@ -95,11 +96,12 @@ impl<'a> Strip<'a> {
             return Err(Stop::CutShort);
         }
         let payload = self.part(place + 1, count)?;
-        Ok((Order::Apply(payload), words))
+        let order = Order::Apply(payload);
+        Ok(Entry { order, words })
     }
 
-    // The order that begins at word `place`, with its size in words.
-    pub(crate) fn order_at(&self, place: usize) -> Result<(Order<'a>, usize), Stop>
+    // The order that begins at word `place`.
+    pub(crate) fn order_at(&self, place: usize) -> Result<Entry<'a>, Stop>
         ensures reads { reading result ≡ reads self.now.bytes.now place }
         ensures within { Within self.now.bytes.now place result }
     {
@@ -110,14 +112,14 @@ impl<'a> Strip<'a> {
         let bits = (word % (1 << 28)) as usize;
         // Kept as numbers: the kinds stand once here and once in `Order::kind`, and an enum of them would have both tables too.
         match word >> 28 {
-            0 if bits == 0 => Ok((Order::End, 1)),
+            0 if bits == 0 => Ok(Entry::of_one_word(Order::End)),
             1 if bits % 4096 == 0 => self.read_opening(place, bits),
             2 => self.read_payload(place, bits),
-            3 => Ok((Order::Skip(bits as u64), 1)),
-            4 => Ok((Order::StepBack(bits as u64), 1)),
-            5 if bits == 0 => Ok((Order::Position, 1)),
-            6 if bits == 0 => Ok((Order::Origin, 1)),
-            7 if bits == 0 => Ok((Order::Close, 1)),
+            3 => Ok(Entry::of_one_word(Order::Skip(bits as u64))),
+            4 => Ok(Entry::of_one_word(Order::StepBack(bits as u64))),
+            5 if bits == 0 => Ok(Entry::of_one_word(Order::Position)),
+            6 if bits == 0 => Ok(Entry::of_one_word(Order::Origin)),
+            7 if bits == 0 => Ok(Entry::of_one_word(Order::Close)),
             _ => Err(Stop::BadWord),
         }
     }

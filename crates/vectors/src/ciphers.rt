@@ -3,7 +3,7 @@ use crate::hex;
 use crate::tables::number;
 use crate::tally::Tally;
 use anyhow::anyhow;
-use generator::Generator;
+use generator::{Generator, LONGEST};
 use snow::Snow2;
 use std::fs;
 
@@ -18,8 +18,8 @@ fn loaded(key: &[u8], iv: &[u8]) -> anyhow::Result<Snow2> {
 // The key and the IV of a state, and the way back to it, are those of its load.
 fn names(cipher: &mut Snow2, words: u32, key: &[u8], iv: &[u8]) -> bool {
     cipher.backward_by(u64::from(words));
-    let mut found = [0u8; 255];
-    let mut found_iv = [0u8; 255];
+    let mut found = [0; LONGEST];
+    let mut found_iv = [0; LONGEST];
     cipher.origin(&mut found, &mut found_iv).is_ok_and(|(len, iv_len)| {
         found.get(..len) == Some(key) && found_iv.get(..iv_len) == Some(iv)
     })
@@ -62,7 +62,7 @@ fn compare_keystreams(rt: &HostRuntime, title: &str, file: &str) -> anyhow::Resu
     let text = fs::read_to_string(rt, file)?;
     let mut tally = Tally::default();
     for line in text.lines() {
-        tally.add(compare_line(rt, title, line)?);
+        tally += compare_line(rt, title, line)?;
     }
     let vectors = text.lines().count();
     let Tally {
@@ -115,7 +115,7 @@ fn compare_states(rt: &HostRuntime) -> anyhow::Result<()> {
         } else {
             cipher.words()
         };
-        tally.add(compare_state(rt, line, held)?);
+        tally += compare_state(rt, line, held)?;
         match state {
             0 => {}
             1..=32 => cipher.feed(),

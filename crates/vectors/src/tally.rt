@@ -1,4 +1,5 @@
 // What was compared and what differs.
+use std::ops::AddAssign;
 
 #[derive(Clone, Copy, Default)]
 pub(crate) struct Tally {
@@ -9,13 +10,15 @@ pub(crate) struct Tally {
 impl Tally {
     // One comparison more.
     pub(crate) fn count(&mut self, agrees: bool) {
-        self.add(Tally {
+        *self += Tally {
             compared: 1,
             differing: u32::from(!agrees),
-        });
+        };
     }
+}
 
-    pub(crate) fn add(&mut self, other: Tally) {
+impl AddAssign for Tally {
+    fn add_assign(&mut self, other: Tally) {
         self.compared = self.compared.saturating_add(other.compared);
         self.differing = self.differing.saturating_add(other.differing);
     }
