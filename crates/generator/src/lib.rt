@@ -70,7 +70,8 @@ pub trait Generator {
 
     ghost state: { Self → List ℕ };
 
-    // Takes the load of key and IV, or answers the fault and is cleared.
+    // Takes the load of key and IV, or answers the fault and is cleared. Kept as two slices, here and in the calls above: C hands them in so, and a
+    // struct of both would be taken apart at each call.
     fn load(&mut self, key: &[u8], iv: &[u8]) -> Result<(), Fault>
         ensures { Loaded meaning key.now iv.now result (state self.new) };
 
@@ -104,7 +105,7 @@ pub trait Generator {
         }
     }
 
-    // Many steps back.
+    // Many steps back. Kept beside forward_by: one loop over a closure would need a contract for what the closure does.
     final fn backward_by(&mut self, words: u64)
         ensures { state self.new ≡ times words meaning.back (state self.old) }
     {

@@ -71,7 +71,7 @@ impl<G: Generator> Session<G> {
         Ok(())
     }
 
-    // Goes back by n bytes.
+    // Goes back by n bytes. Kept beside skip: which way the opening and the generator go would be two closures.
     pub fn step_back(&mut self, n: u64) -> Result<(), Refusal>
         ensures { SteppedBack G.Generator.meaning self.old n result self.new }
     {

@@ -16,7 +16,7 @@ pub(crate) fn numbered_words<const N: usize>(bytes: &[u8]) -> [u32; N]
     words
 }
 
-// The bytes of some words, at the front of a buffer.
+// The bytes of some words, at the front of a buffer. Kept by place: after a loop over `chunks_exact_mut` a proof knows no byte of the buffer.
 pub(crate) fn put_words(buffer: &mut [u8], words: &[u32])
     requires { 4 * length words.now ≤ length buffer.old }
     ensures { buffer.new ≡ words_bytes words.now ++ drop (4 * length words.now) buffer.old }

@@ -1,4 +1,4 @@
-// Orders put to a session.
+// Orders put to a session. Kept with session and reply as parameters: as methods of a run each would say besides that the run's cursor stays.
 ghost use Rattle.std.specs.Prelude.{◌≡◌, ◌+◌, ◌-◌, ◌≤◌, ◌∷◌, ◌++◌, length, take};
 ghost use Rattle.strips.specs.Orders.{asked, opening, applying, placing, naming};
 ghost use Rattle.strips.specs.Reading.{Small};
@@ -7,6 +7,7 @@ ghost use Rattle.strips.specs.Replies.{reply_room};
 
 use crate::bytes::put;
 use crate::orders::Order;
+use crate::strip::MOST_BYTES;
 use generator::{Generator, LONGEST};
 use session::{Refusal, Session};
 use words::are_bytes;
@@ -17,9 +18,9 @@ fn answer_opening<G: Generator>(
     key: &[u8],
     iv: &[u8],
     limit: u64,
-    reply: &mut [u8],
+    reply: &mut [u8; MOST_BYTES],
 ) -> Result<usize, Refusal>
-    requires { length key.now ≤ length reply.old }
+    requires { length key.now ≤ MOST_BYTES }
     ensures answered { Answered G.Generator.meaning session.old (opening key.now iv.now limit) (in_buffer result reply.new) session.new }
     ensures sized { Sized 0 result }
 {
@@ -35,9 +36,9 @@ fn answer_opening<G: Generator>(
 fn answer_payload<G: Generator>(
     session: &mut Session<G>,
     payload: &[u8],
-    reply: &mut [u8],
+    reply: &mut [u8; MOST_BYTES],
 ) -> Result<usize, Refusal>
-    requires { length payload.now ≤ length reply.old }
+    requires { length payload.now ≤ MOST_BYTES }
     ensures answered { Answered G.Generator.meaning session.old (applying payload.now) (in_buffer result reply.new) session.new }
     ensures sized { Sized (length payload.now) result }
 {
@@ -48,8 +49,10 @@ fn answer_payload<G: Generator>(
     Ok(count)
 }
 
-fn answer_position<G: Generator>(session: &Session<G>, reply: &mut [u8]) -> Result<usize, Refusal>
-    requires { 8 ≤ length reply.old }
+fn answer_position<G: Generator>(
+    session: &Session<G>,
+    reply: &mut [u8; MOST_BYTES],
+) -> Result<usize, Refusal>
     ensures answered { Answered G.Generator.meaning session.now placing (in_buffer result reply.new) session.now }
     ensures sized { Sized 8 result }
 {
@@ -59,8 +62,8 @@ fn answer_position<G: Generator>(session: &Session<G>, reply: &mut [u8]) -> Resu
 }
 
 // A key and an IV behind their lengths, at the front of a reply; answers how many bytes that is.
-fn put_names(reply: &mut [u8], key: &[u8], iv: &[u8]) -> usize
-    requires { (512 ≤ length reply.old) × ((length key.now ≤ 255) × (length iv.now ≤ 255)) }
+fn put_names(reply: &mut [u8; MOST_BYTES], key: &[u8], iv: &[u8]) -> usize
+    requires { (length key.now ≤ 255) × (length iv.now ≤ 255) }
     ensures size { result ≡ 2 + length key.now + length iv.now }
     ensures names { take result reply.new ≡ length key.now ∷ length iv.now ∷ (key.now ++ iv.now) }
 {
@@ -70,8 +73,10 @@ fn put_names(reply: &mut [u8], key: &[u8], iv: &[u8]) -> usize
     2 + key.len() + iv.len()
 }
 
-fn answer_origin<G: Generator>(session: &mut Session<G>, reply: &mut [u8]) -> Result<usize, Refusal>
-    requires { 512 ≤ length reply.old }
+fn answer_origin<G: Generator>(
+    session: &mut Session<G>,
+    reply: &mut [u8; MOST_BYTES],
+) -> Result<usize, Refusal>
     ensures answered { Answered G.Generator.meaning session.old naming (in_buffer result reply.new) session.new }
     ensures sized { Sized 512 result }
 {
@@ -85,9 +90,9 @@ fn answer_origin<G: Generator>(session: &mut Session<G>, reply: &mut [u8]) -> Re
 pub(crate) fn answer<G: Generator>(
     session: &mut Session<G>,
     order: Order<'_>,
-    reply: &mut [u8],
+    reply: &mut [u8; MOST_BYTES],
 ) -> Result<usize, Refusal>
-    requires { (512 ≤ length reply.old) × (Small (length reply.old) (asked order)) }
+    requires { Small MOST_BYTES (asked order) }
     ensures answered { Answered G.Generator.meaning session.old (asked order.entry) (in_buffer result reply.new) session.new }
     ensures sized { Sized (reply_room (asked order.entry) - 4) result }
 {
