@@ -2,7 +2,7 @@
 use Rattle.std.proofs.Common.{◌≡◌, ℕ, zero, suc, ◌+◌, ◌*◌, ◌/◌, ◌%◌, ◌^◌, ◌<◌, sym, refl, ap, ◌∙◌, subst, suc-add, zero-add, arith}
 use lib.Bits.{xor_lt}
 use Rattle.words.specs.Words.{◌⊕◌, word, byte_of}
-use Rattle.words.proofs.Xors.{xors}
+use Rattle.words.proofs.Xors.{joined_off}
 use Rattle.words.proofs.Words.{byte_0, byte_3, byte_below, word_bytes, word_below, words_same, xor_words}
 use Rattle.fields.specs.Doubling.{doubled, doublings}
 use Rattle.fields.specs.Alpha.{times_beta, mul_alpha, div_alpha, times_alpha, over_alpha}
@@ -51,10 +51,7 @@ over_word a b c e ha hb hc he =
 
 -- joined twice with one byte
 again : (x m n : ℕ) → n ≡ m → (x ⊕ m) ⊕ n ≡ x
-again x m n e = ap (λ y. (x ⊕ m) ⊕ y) e ∙ back x m
-  where
-    back : (x m : ℕ) → (x ⊕ m) ⊕ m ≡ x
-    back x m = simp xors
+again x m n e = ap (λ y. (x ⊕ m) ⊕ y) e ∙ joined_off x m
 
 join_beta : (n x a : ℕ) → x < 256 → a < 256 → x ⊕ times_beta n a < 256
 join_beta n x a hx ha = xor_lt 8 x (times_beta n a) hx (beta_below n a ha)

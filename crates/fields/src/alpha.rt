@@ -84,7 +84,7 @@ pub fn mul_alpha_entry(byte: u8) -> u32
     entry(&MUL_ALPHA, byte)
 }
 
-// DIVα: what is joined to a word shifted right by a byte, for the byte shifted out.
+// DIVα: what is joined to a word shifted right by a byte, for the byte shifted out. Kept beside mul_alpha_entry: both are `entry` at a table.
 pub fn div_alpha_entry(byte: u8) -> u32
     ensures { result ≡ div_alpha byte }
 {

@@ -1,1 +1,3 @@
 pub mod Repeats
+pub mod States
+pub mod Handed

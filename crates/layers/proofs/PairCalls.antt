@@ -1,5 +1,5 @@
 -- What loading and origin of a pair answer, from what its members answer. Assumes nothing.
-use Rattle.std.proofs.Common.{◌≡◌, ℕ, ◌+◌, ◌<◌, ◌≤◌, ◌⊎◌, List, ◌++◌, length, IsErrAnd, Ok, Err, Result, sym, refl, ap, ◌∙◌, subst, ⊎_elim, arith}
+use Rattle.std.proofs.Common.{◌≡◌, ℕ, ◌+◌, ◌<◌, ◌≤◌, ◌⊎◌, List, ◌++◌, length, Ok, Err, Result, sym, refl, ap, ◌∙◌, subst, ⊎_elim, arith}
 use Rattle.generator.specs.declared.OriginFault.{OriginFault}
 use Rattle.generator.specs.declared.OriginFault.TheVariants.{NoOrigin}
 use Rattle.generator.specs.Meaning.{Meaning, Lawful, Reaches, State}
@@ -11,11 +11,6 @@ use Rattle.layers.specs.PairParts.{BothReach, apart_at, together}
 -- the same by equal keys and IVs
 pub reaches_by : {m : Meaning} {x y x' y' s : List ℕ} → x ≡ x' → y ≡ y' → Reaches m x' y' 0 s → Reaches m x y 0 s
 reaches_by {m} {x} {y} {x'} {y'} {s} e e' r = subst (λ l. Reaches m l y 0 s) (sym e) (subst (λ l. Reaches m x' l 0 s) (sym e') r)
-
--- the fault that a `?` hands on
-pub handed_on : {X : Type 0} (r : Result X OriginFault) (f : OriginFault) → IsErrAnd r (λ e. e ≡ f) → r ≡ Err f
-handed_on (Ok x) f by = absurd by
-handed_on (Err e) f by = ap Err by
 
 module _ (a b : Meaning) (la : Lawful a) {s : List ℕ} (st : State a.size s) (t key iv : List ℕ) (room : Roomy key iv) where
   no_origin : (r : Result (ℕ × ℕ) OriginFault) (f : OriginFault) → r ≡ Err f → f ≡ NoOrigin → ((k i : List ℕ) → BothReach a b k i s t → ⊥) → Named (pair a b) 0 (s ++ t) key iv r key iv

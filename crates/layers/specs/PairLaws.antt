@@ -9,7 +9,8 @@ use Rattle.generator.specs.Refusals.{member}
 use Rattle.generator.specs.Meaning.{Meaning, Lawful, Reaches, State, times}
 use Rattle.layers.specs.Pair.{joined, parts, at_place, both_loads, parts_load, pair}
 use Rattle.layers.specs.Piles.{stream}
-use Rattle.layers.specs.PairParts.{first_state, second_state, joined_state, at_parts, Parted, apart, apart_at}
+use Rattle.generator.proofs.States.{first_state, second_state, joined_state}
+use Rattle.layers.specs.PairParts.{at_parts, Parted, apart, apart_at}
 
 -- steps of both parts are undone by steps of both parts
 undone : (n : ℕ) (f g f' g' : List ℕ → List ℕ) (s : List ℕ) → length (f (take n s)) ≡ n → g (f (take n s)) ≡ take n s → g' (f' (drop n s)) ≡ drop n s

@@ -1,40 +1,17 @@
 -- Keys, IVs and states of a pair, apart and joined. Assumes nothing.
-use Rattle.std.specs.Prelude.{◌≡◌, ℕ, zero, suc, ◌+◌, ◌≤◌, List, [], ◌∷◌, ◌++◌, length, take, drop, Some, None, Ok, Err, Option, Result, refl}
+use Rattle.std.specs.Prelude.{◌≡◌, ℕ, ◌+◌, ◌≤◌, List, [], ◌∷◌, ◌++◌, length, take, drop, Some, None, Ok, Err, Option, Result, refl}
 use Rattle.std.proofs.Common.{sym, ap, subst, ◌∙◌, arith, length-append, length-drop}
 use Rattle.std.proofs.lemmas.List.{take-append-drop, take_at, drop_at, length-take-le}
 use Rattle.std.proofs.lemmas.Bool.Decides.{nat_tests}
 use Rattle.words.specs.Words.{AllBelow, Bytes}
+use Rattle.words.proofs.Words.{fits_append}
 use Rattle.generator.specs.declared.Fault.{Fault}
 use Rattle.generator.specs.Meaning.{Meaning, Lawful, Reaches, State}
 use Rattle.layers.specs.Pair.{joined, parts, both_loads, parts_load, pair}
 
-below_take : (b n : ℕ) (xs : List ℕ) → AllBelow b xs → AllBelow b (take n xs)
-below_take b zero xs all = tt
-below_take b (suc n) [] all = tt
-below_take b (suc n) (x ∷ xs) all = (all.0, below_take b n xs all.1)
-
-below_drop : (b n : ℕ) (xs : List ℕ) → AllBelow b xs → AllBelow b (drop n xs)
-below_drop b zero xs all = all
-below_drop b (suc n) [] all = tt
-below_drop b (suc n) (x ∷ xs) all = below_drop b n xs all.1
-
-below_append : (b : ℕ) (xs ys : List ℕ) → AllBelow b xs → AllBelow b ys → AllBelow b (xs ++ ys)
-below_append b [] ys all all' = all'
-below_append b (x ∷ xs) ys all all' = (all.0, below_append b xs ys all.1 all')
-
 below_parts : (b : ℕ) (xs ys : List ℕ) → AllBelow b (xs ++ ys) → AllBelow b xs × AllBelow b ys
 below_parts b [] ys all = (tt, all)
 below_parts b (x ∷ xs) ys all = let rest = below_parts b xs ys all.1 in ((all.0, rest.0), rest.1)
-
-module _ (n k : ℕ) where
-  pub first_state : {s : List ℕ} → State (n + k) s → State n (take n s)
-  first_state {s} st = record { count = length-take-le n s (omega (arith, st.count)); fits = below_take _ n s st.fits }
-
-  pub second_state : {s : List ℕ} → State (n + k) s → State k (drop n s)
-  second_state {s} st = record { count = simp length-drop (omega (arith, st.count)); fits = below_drop _ n s st.fits }
-
-  pub joined_state : {s t : List ℕ} → State n s → State k t → State (n + k) (s ++ t)
-  joined_state {s} {t} st st' = record { count = simp length-append (omega (arith, st.count, st'.count)); fits = below_append _ s t st.fits st'.fits }
 
 -- what is said of the two parts of a state that was joined is said of the parts that it was joined of
 pub at_parts : {X : Type 0} (h : List ℕ → List ℕ → X) (n : ℕ) (s t : List ℕ) → length s ≡ n → h (take n (s ++ t)) (drop n (s ++ t)) ≡ h s t
@@ -127,8 +104,8 @@ module _ (a b : Meaning) where
 
   pub together : {k k' i i' s t : List ℕ} → length k + length k' ≤ 254 → length i + length i' ≤ 254 → Reaches a k i 0 s → Reaches b k' i' 0 t → Reaches (pair a b) (joined k k') (joined i i') 0 (s ++ t)
   together {k} {k'} {i} {i'} {s} {t} short short' r r' = record {
-    key_bytes = (omega arith, below_append 256 k k' r.key_bytes r'.key_bytes);
-    iv_bytes = (omega arith, below_append 256 i i' r.iv_bytes r'.iv_bytes);
+    key_bytes = (omega arith, fits_append 256 k k' r.key_bytes r'.key_bytes);
+    iv_bytes = (omega arith, fits_append 256 i i' r.iv_bytes r'.iv_bytes);
     start = s ++ t;
     loads =
         ap (λ p. parts_load a b p (parts (joined i i'))) (parts_joined k k' short) ∙ ap (parts_load a b (Some (k, k'))) (parts_joined i i' short')

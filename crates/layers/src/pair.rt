@@ -1,7 +1,7 @@
 ghost use Rattle.std.specs.Prelude.{◌≡◌, ◌++◌};
 ghost use Rattle.layers.specs.Pair.{pair, BothLoaded};
 ghost use Rattle.layers.specs.PairLaws.{pair_lawful};
-ghost use Rattle.layers.specs.PairParts.{joined_state};
+ghost use Rattle.generator.proofs.States.{joined_state};
 
 use crate::origins::origin_of;
 use crate::parts::{at_place, join, split};

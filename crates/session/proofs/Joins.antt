@@ -5,7 +5,7 @@ use borrow.Rule.Slice.PartMut.{put_mid}
 use Rattle.std.proofs.lemmas.List.{places, get_or_past, get_or-append_right, get_or_append_left, length-append}
 use Rattle.std.proofs.lemmas.Bool.{cases_lt}
 use Rattle.words.specs.Words.{Bytes, word, byte_of, bytes_of}
-use Rattle.words.proofs.Words.{byte_0, byte_1, byte_2, byte_3, byte_below, word_bytes, words_same, xor_words}
+use Rattle.words.proofs.Words.{byte_0, byte_1, byte_2, byte_3, byte_below, word_bytes, words_same, xor_words, fits_take, fits_drop}
 use Rattle.generator.specs.Meaning.{Meaning, times}
 use Rattle.generator.proofs.Repeats.{times_add}
 use Rattle.session.specs.View.{View, placed, ahead, stream_byte}
@@ -62,17 +62,6 @@ part_joined m v start count k n buffer part within size whole long joined =
       front = mid_front start count k buffer part within size long;
       rest = mid_rest start count k buffer part within size long;
     }
-
--- parts of bytes are bytes
-take_bytes : (n : ℕ) (xs : List ℕ) → Bytes xs → Bytes (take n xs)
-take_bytes zero xs h = tt
-take_bytes (suc n) [] h = tt
-take_bytes (suc n) (x ∷ xs) h = (h.0, take_bytes n xs h.1)
-
-drop_bytes : (n : ℕ) (xs : List ℕ) → Bytes xs → Bytes (drop n xs)
-drop_bytes zero xs h = h
-drop_bytes (suc n) [] h = tt
-drop_bytes (suc n) (x ∷ xs) h = drop_bytes n xs h.1
 
 module _ (m : Meaning) (s : List ℕ) (p : ℕ) where
   -- so many bytes on, and then as many more
@@ -162,7 +151,7 @@ module _ (m : Meaning) (s : List ℕ) (p : ℕ) where
       is ∙ words_same (sym (read 0 (omega arith) ∙ ap (λ n. get_or x n 0) (let none : at + 0 ≡ at = omega arith in none))) (sym (read 1 (omega arith))) (sym (read 2 (omega arith))) (sym (read 3 (omega arith))) in
       let count : length xs ≡ 4 = search (rules, places) in
       part_joined m (placed s p) at 4 k 4 x part within size refl (ap length written)
-      (four_joined start w xs part e small count (take_bytes k (drop at x) (drop_bytes at x bytes)) (written ∙ ap (λ v. bytes_of (bit_xor v w)) same))
+      (four_joined start w xs part e small count (fits_take 256 k (drop at x) (fits_drop 256 at x bytes)) (written ∙ ap (λ v. bytes_of (bit_xor v w)) same))
 
 -- a whole list joined, byte by byte
 whole_at : {m : Meaning} {v : View} {x y t : List ℕ} → JoinedAll m v x y t → (i : ℕ) → i < length x → get_or y i 0 ≡ bit_xor (get_or x i 0) (stream_byte m v i)

@@ -57,7 +57,7 @@ impl Opening {
         })
     }
 
-    // So many bytes further back.
+    // So many bytes further back. Kept beside forward: the test, the sum and the refusal all differ.
     pub(crate) fn back(self, n: u64) -> Result<Opening, Refusal>
         ensures { MatchResult result (λ o. (n ≤ self.position) × (o.position ≡ self.position - n) × (o.limit ≡ self.limit)) (λ e. (self.position < n) × (e ≡ BeforeStart)) }
     {

@@ -19,13 +19,14 @@ use Rattle.snow.specs.States.{state_of}
 use Rattle.snow.specs.declared.register.Register.{Register}
 use Rattle.snow.specs.declared.cipher.Snow.{Snow}
 use Rattle.snow.specs.CipherSteps.{steps}
-use Rattle.snow.specs.CipherLaws.{joined_state, says, key_words, iv_words, register_state, rewound_start}
+use Rattle.generator.proofs.States.{joined_state}
+use Rattle.snow.specs.CipherLaws.{says, key_words, iv_words, register_state, rewound_start}
 
 pub register_state_of : (r : Register) → State 16 r.words
 register_state_of r = register_fits r.words r.count r.fits
 
 pub cipher_state : {M : Type 0} (n : ℕ) (words : M → List ℕ) → ((m : M) → State n (words m)) → (s : Snow M) → State (16 + n) (state_of words s)
-cipher_state n words fits s = joined_state n s.register.words (words s.machine) (register_state_of s.register) (fits s.machine)
+cipher_state n words fits s = joined_state 16 n (register_state_of s.register) (fits s.machine)
 
 load_is : (c : Machine) (key iv : List ℕ) → c.takes (length key) ≡ true → length iv ≡ 16 → cipher_load c key iv ≡ Ok (started c (prepared c key iv))
 load_is c key iv taken il = rw (taken, eq-eqb (length iv) 16 il) refl

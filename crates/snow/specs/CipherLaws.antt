@@ -2,12 +2,13 @@
 use Rattle.std.specs.Prelude.{◌≡◌, ℕ, ◌+◌, ◌*◌, ◌^◌, ◌≤◌, Bool, true, false, cond, ◌⊎◌, List, ◌++◌, length, replicate, Ok, Err, Result, ◌==◌, refl}
 use Rattle.std.proofs.Common.{sym, ap, subst, ◌∙◌, ⊎_elim, inl, inr, arith}
 use Rattle.std.proofs.lemmas.Bool.Decides.{nat_tests}
-use Rattle.std.proofs.lemmas.List.{length-append, length-replicate, append_cancel_right}
+use Rattle.std.proofs.lemmas.List.{length-replicate, append_cancel_right}
 use Rattle.generator.specs.declared.Fault.{Fault}
 use Rattle.generator.specs.declared.Fault.TheVariants.{Key, Iv}
 use Rattle.generator.specs.Meaning.{State, Lawful, Reaches, times}
+use Rattle.generator.proofs.States.{joined_state}
 use Rattle.words.specs.Words.{Bytes}
-use Rattle.words.proofs.Words.{fits_append, fits_replicate}
+use Rattle.words.proofs.Words.{fits_replicate}
 use Rattle.snow.specs.Register.{numbered}
 use Rattle.snow.specs.Loading.{expanded, with_iv}
 use Rattle.snow.specs.Machines.{Machine, Sound}
@@ -17,13 +18,9 @@ use Rattle.snow.specs.LoadLaws.{expanded_state, with_iv_state, read_one, lengths
 use Rattle.snow.specs.Starts.{started_state, rewound_started}
 use Rattle.snow.specs.CipherSteps.{steps, keystream_fits}
 
--- a register's words and a machine's
-pub joined_state : (n : ℕ) (a m : List ℕ) → State 16 a → State n m → State (16 + n) (a ++ m)
-joined_state n a m sa sm = record { count = length-append a m ∙ omega (arith, sa.count, sm.count); fits = fits_append (2 ^ 32) a m sa.fits sm.fits }
-
 -- a register with zero words behind it
 pub with_zeros : (n : ℕ) (a : List ℕ) → State 16 a → State (16 + n) (a ++ replicate n 0)
-with_zeros n a st = joined_state n a (replicate n 0) st (record { count = length-replicate n 0; fits = fits_replicate (2 ^ 32) 0 n (omega arith) })
+with_zeros n a st = joined_state 16 n st (record { count = length-replicate n 0; fits = fits_replicate (2 ^ 32) 0 n (omega arith) })
 
 -- an accepted load: the words of the key, 16 bytes of IV, and the state that they start
 pub record Load (c : Machine) (key iv s : List ℕ) : Type 0 where

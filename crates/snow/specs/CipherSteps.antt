@@ -2,12 +2,13 @@
 use Rattle.std.specs.Prelude.{◌≡◌, ℕ, ◌+◌, ◌^◌, ◌<◌, List, ◌∷◌, ◌++◌, length, take}
 use Rattle.std.proofs.Common.{sym, ap, subst, ◌∙◌, arith}
 use Rattle.std.proofs.lemmas.Nat.{xor_lt}
-use Rattle.std.proofs.lemmas.List.{length-drop, take-append-drop}
+use Rattle.std.proofs.lemmas.List.{take-append-drop}
 use Rattle.words.specs.Words.{◌⊕◌}
-use Rattle.words.proofs.Words.{fits_append, fits_drop, at_below}
+use Rattle.words.proofs.Words.{fits_append, at_below}
 use Rattle.words.proofs.Spelled.{spell, spelled_front, spelled_behind, fits_spell}
 use Rattle.fields.specs.Alpha.{over_alpha}
 use Rattle.generator.specs.Meaning.{State}
+use Rattle.generator.proofs.States.{second_state}
 use Rattle.snow.specs.Register.{at, feedback, plus}
 use Rattle.snow.specs.Machines.{Machine, Sound}
 use Rattle.snow.specs.Cipher.{machine, output, fsm, clocked, step, feed, keystream, machine_before, unclocked, unstep, unfeed}
@@ -20,7 +21,7 @@ pub parts : (n : ℕ) (P : List ℕ → Type 0) (s : List ℕ) → State (16 + n
     → ((i : ℕ) → at s i < 2 ^ 32) × State n (machine s) × (P (spell 16 0 s ++ machine s) → P s)
 parts n P s st = (
   at_below (2 ^ 32) s (omega arith) st.fits,
-  record { count = length-drop 16 s ∙ omega (arith, st.count); fits = fits_drop (2 ^ 32) 16 s st.fits },
+  second_state 16 n st,
   subst P (sym (spelled_front 16 s (omega (arith, st.count)))),
 )
 

@@ -6,7 +6,7 @@ use Rattle.std.specs.List.{range_with_len}
 use Rattle.std.proofs.lemmas.Nat.{xor_lt}
 use Rattle.std.proofs.lemmas.List.{length-map, length-take-le}
 use Rattle.words.specs.Words.{◌⊕◌, AllBelow, Words}
-use Rattle.words.proofs.Xors.{xors, xor_twice}
+use Rattle.words.proofs.Xors.{xors, xor_twice, joined_off}
 use Rattle.words.proofs.Words.{fits_append, fits_take, at_below}
 use Rattle.words.proofs.Spelled.{spell, by_words}
 use Rattle.generator.specs.Meaning.{State}
@@ -15,10 +15,7 @@ use Rattle.snow.specs.Loading.{inverted, expanded_128, expanded_256, expanded, w
 use Rattle.snow.specs.Origins.{key_in, iv_in, iv_beside, Holds}
 
 inverted_twice : (w : ℕ) → inverted (inverted w) ≡ w
-inverted_twice w = go w 0xFFFFFFFF
-  where
-    go : (w f : ℕ) → (w ⊕ f) ⊕ f ≡ w
-    go w f = simp xors
+inverted_twice w = joined_off w 0xFFFFFFFF
 
 -- a word is never its inverse
 inverted_other : (w : ℕ) → w ≢ inverted w

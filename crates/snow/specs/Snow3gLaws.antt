@@ -4,6 +4,7 @@ use Rattle.std.proofs.Common.{ap, ◌∙◌, arith}
 use Rattle.std.proofs.lemmas.Bool.Decides.{nat_tests}
 use Rattle.std.proofs.lemmas.Nat.{xor_lt}
 use Rattle.words.specs.Words.{◌⊕◌}
+use Rattle.words.proofs.Xors.{joined_off}
 use Rattle.fields.specs.Mixing.{s2, s2_undone}
 use Rattle.fields.proofs.WordBoxes.{s1_inverse, s2_inverse}
 use Rattle.generator.specs.Meaning.{State, Lawful}
@@ -12,7 +13,7 @@ use Rattle.snow.specs.Machines.{Sound}
 use Rattle.snow.specs.Snow3g.{r_next, r_back, snow3g_machine, snow3g}
 use Rattle.snow.specs.CipherLaws.{cipher_lawful}
 use Rattle.snow.specs.ShiftLaws.{words_of_state}
-use Rattle.snow.specs.Sums.{plus_below, minus_below, minus_first, plus_rest, joined_off}
+use Rattle.snow.specs.Sums.{plus_below, minus_below, minus_first, plus_rest}
 
 next_state : {r : List ℕ} (w : ℕ) → State 3 r → State 3 (r_next r w)
 next_state {r} w st =

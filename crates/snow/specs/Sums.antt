@@ -1,8 +1,6 @@
--- Sums, differences and joins of words. Assumes nothing.
+-- Sums and differences of words. Assumes nothing.
 use Rattle.std.specs.Prelude.{◌≡◌, ℕ, ◌^◌, ◌<◌}
 use Rattle.std.proofs.Common.{arith}
-use Rattle.words.specs.Words.{◌⊕◌}
-use Rattle.words.proofs.Xors.{xors}
 use Rattle.snow.specs.Register.{plus, minus}
 
 pub plus_below : (a b : ℕ) → plus a b < 2 ^ 32
@@ -22,6 +20,3 @@ minus_first a b ha hb = omega arith
 
 pub plus_rest : (a b : ℕ) → a < 2 ^ 32 → b < 2 ^ 32 → plus b (minus a b) ≡ a
 plus_rest a b ha hb = omega arith
-
-pub joined_off : (x y : ℕ) → (x ⊕ y) ⊕ y ≡ x
-joined_off x y = simp xors

@@ -4,7 +4,8 @@ ghost use Rattle.generator.specs.Meaning.{times};
 ghost use Rattle.snow.specs.Refusals.{Filled};
 ghost use Rattle.snow.specs.Cipher.{clocked, feed, unclocked, unfeed, started, rewound, cipher};
 ghost use Rattle.snow.specs.Loading.{with_iv};
-ghost use Rattle.snow.specs.CipherLaws.{cipher_lawful, joined_state};
+ghost use Rattle.generator.proofs.States.{joined_state};
+ghost use Rattle.snow.specs.CipherLaws.{cipher_lawful};
 ghost use Rattle.snow.specs.RegisterLaws.{register_fits};
 ghost use Rattle.snow.specs.States.{state_of};
 
@@ -113,7 +114,7 @@ impl<M: Machine> Generator for Snow<M> {
 
     ghost lawful = { cipher_lawful M.machine M.Machine.sound };
 
-    ghost valid = { λ x. joined_state M.machine.size x.register.words (M.words x.machine) (register_fits x.register.words x.register.count x.register.fits) (M.Machine.fits x.machine) };
+    ghost valid = { λ x. joined_state 16 M.machine.size (register_fits x.register.words x.register.count x.register.fits) (M.Machine.fits x.machine) };
 
     // The key's length is tested first.
     fn load(&mut self, key: &[u8], iv: &[u8]) -> Result<(), Fault> {

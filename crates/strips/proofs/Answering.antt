@@ -1,10 +1,10 @@
 -- What a session's calls say of the orders put to it. Assumes nothing.
 use Rattle.std.proofs.Common.{◌≡◌, ℕ, ◌+◌, ◌/◌, ◌≤◌, Bool, true, false, cond, List, [], length, drop, IsErrAnd, Ok, Err, Result, sym, ap, ◌∙◌, subst, arith}
 use Rattle.std.proofs.lemmas.List.{length-append}
-use Rattle.std.proofs.lemmas.Result.{err_from_is_err_and}
 use Rattle.words.specs.Words.{Bytes}
 use Rattle.generator.specs.Meaning.{Meaning}
 use Rattle.generator.specs.Calls.{Named}
+use Rattle.generator.proofs.Handed.{handed_on}
 use Rattle.generator.specs.declared.OriginFault.{OriginFault}
 use Rattle.session.specs.declared.refusals.Refusal.{Refusal}
 use Rattle.session.specs.declared.refusals.Refusal.TheVariants.{NotOpen}
@@ -16,10 +16,7 @@ use Rattle.strips.specs.Answered.{Answered, opens, applies, with_bytes, in_buffe
 
 -- a refusal that a `?` hands up
 pub refused : {m : Meaning} {v w : View} {q : Asked} (r : Result ℕ Refusal) (buffer : List ℕ) (e : Refusal) → IsErrAnd r (λ y. y ≡ e) → Answered m v q (Err e) w → Answered m v q (in_buffer r buffer) w
-refused {m} {v} {w} {q} r buffer e by a =
-    let p = err_from_is_err_and r by in
-    let same : r ≡ Err e = cc in
-    subst (λ x. Answered m v q (in_buffer x buffer) w) (sym same) a
+refused {m} {v} {w} {q} r buffer e by a = subst (λ x. Answered m v q (in_buffer x buffer) w) (sym (handed_on r e by)) a
 
 pub opening_answered : {m : Meaning} {v w : View} (key copy iv : List ℕ) (limit : ℕ) (r : Result Unit Refusal) → copy ≡ key → Bytes key → Bytes iv → Opened m v copy iv limit r w → Answered m v (opening key iv limit) (with_bytes r []) w
 opening_answered {m} {v} {w} key copy iv limit r e kb ib p = opens key iv limit r kb ib (subst (λ k. Opened m v k iv limit r w) e p)

@@ -12,6 +12,9 @@ xor_twice a b = sym (xor_assoc a a b) ∙ ap (λ x. x ⊕ b) (xor_self a)
 
 pub ruleset xors = (xor_assoc, xor_self, xor_twice, xor_zero_l, xor_zero_r, xor_comm, xor_left)
 
+pub joined_off : (x y : ℕ) → (x ⊕ y) ⊕ y ≡ x
+joined_off x y = simp xors
+
 -- two joins of two, the other way round
 pub xor_medial : (a b c d : ℕ) → (a ⊕ b) ⊕ (c ⊕ d) ≡ (a ⊕ c) ⊕ (b ⊕ d)
 xor_medial a b c d = simp xors

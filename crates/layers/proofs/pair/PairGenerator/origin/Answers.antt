@@ -1,5 +1,6 @@
 use Rattle.std.proofs.Common.{◌+◌, ◌<◌, ◌⊎◌, length, inl, inr, arith}
-use Rattle.layers.proofs.PairCalls.{handed_on, reaches_by, first_none, second_none, too_long, both_named}
+use Rattle.generator.proofs.Handed.{handed_on}
+use Rattle.layers.proofs.PairCalls.{reaches_by, first_none, second_none, too_long, both_named}
 use Rattle.layers.proofs.pair.PairGenerator.origin.Goals as goal
 use Rattle.layers.proofs.pair.PairGenerator.origin.Goals.{then-first_key-second_key-gt254-via-then-first_key-second_key-gt254, then-first_key-second_key-gt254-via-else-first_key-second_key-gt254+then-first_iv-second_iv-gt254}
 
