@@ -14,7 +14,7 @@ use Rattle.snow.specs.Loading.{expanded, with_iv}
 use Rattle.snow.specs.Machines.{Machine, Sound}
 use Rattle.snow.specs.Cipher.{step, feed, unstep, unfeed, prepared, started, rewound, cipher_load, cipher}
 use Rattle.snow.specs.Numbers.{numbered_state, numbered_one, plain_member}
-use Rattle.snow.specs.LoadLaws.{expanded_state, with_iv_state, read_one, lengths_apart}
+use Rattle.snow.specs.LoadLaws.{filled_state, read_one, lengths_apart}
 use Rattle.snow.specs.Starts.{started_state, rewound_started}
 use Rattle.snow.specs.CipherSteps.{steps, keystream_fits}
 
@@ -54,6 +54,14 @@ module _ (c : Machine) (sound : Sound c) where
   faults : (key iv : List ℕ) (f : Fault) → cipher_load c key iv ≡ Err f → (f ≡ Key 0) ⊎ (f ≡ Iv 0)
   faults key iv f e = refusals (c.takes (length key)) (length iv) (started c (prepared c key iv)) f e
 
+  load_short : {key iv s : List ℕ} → Load c key iv s → (length key ≤ 255) × (length iv ≤ 255)
+  load_short l = ⊎_elim (λ e. (omega (arith, l.key_long), omega (arith, l.iv_long))) (λ e. (omega (arith, l.key_long), omega (arith, l.iv_long))) l.sizes
+
+  -- the state before the steps of a load
+  prepared_of : (n : ℕ) (key iv : List ℕ) → (n ≡ 4) ⊎ (n ≡ 8) → Bytes key → Bytes iv → length key ≡ 4 * n → length iv ≡ 16 → State (16 + c.size) (prepared c key iv)
+  prepared_of n key iv sizes kb ib kl il =
+      with_zeros c.size (with_iv (expanded (numbered key)) (numbered iv)) (filled_state n (numbered key) (numbered iv) sizes (numbered_state n key kb kl) (numbered_state 4 iv ib il))
+
   -- equal starts come from equal registers
   one_register : (a b : List ℕ) → State (16 + c.size) (a ++ replicate c.size 0) → State (16 + c.size) (b ++ replicate c.size 0) → started c (a ++ replicate c.size 0) ≡ started c (b ++ replicate c.size 0) → a ≡ b
   one_register a b sa sb e =
@@ -68,19 +76,16 @@ module _ (c : Machine) (sound : Sound c) where
     iv_words = numbered_state 4 iv iv_bytes l.iv_long
 
     pub register_state : State 16 (with_iv (expanded (numbered key)) (numbered iv))
-    register_state = with_iv_state (expanded (numbered key)) (numbered iv) (expanded_state l.words (numbered key) l.sizes key_words) iv_words
+    register_state = filled_state l.words (numbered key) (numbered iv) l.sizes key_words iv_words
 
     pub prepared_state : State (16 + c.size) (prepared c key iv)
-    prepared_state = with_zeros c.size (with_iv (expanded (numbered key)) (numbered iv)) register_state
+    prepared_state = prepared_of l.words key iv l.sizes key_bytes iv_bytes l.key_long l.iv_long
 
     pub rewound_start : times 32 (unfeed c) (unstep c s) ≡ prepared c key iv
     rewound_start = ap (λ s. times 32 (unfeed c) (unstep c s)) l.starts ∙ rewound_started (16 + c.size) (step c) (feed c) (unstep c) (unfeed c) (steps c sound) prepared_state
 
     loaded_state : State (16 + c.size) s
     loaded_state = subst (State (16 + c.size)) (sym l.starts) (started_state (16 + c.size) (step c) (feed c) (unstep c) (unfeed c) (steps c sound) prepared_state)
-
-    load_short : (length key ≤ 255) × (length iv ≤ 255)
-    load_short = ⊎_elim (λ e. (omega (arith, l.key_long), omega (arith, l.iv_long))) (λ e. (omega (arith, l.key_long), omega (arith, l.iv_long))) l.sizes
 
   module _ {key iv key' iv' s : List ℕ} (kb : Bytes key) (ib : Bytes iv) (kb' : Bytes key') (ib' : Bytes iv') (l : Load c key iv s) (l' : Load c key' iv' s) where
     same : with_iv (expanded (numbered key)) (numbered iv) ≡ with_iv (expanded (numbered key')) (numbered iv')
@@ -109,6 +114,6 @@ module _ (c : Machine) (sound : Sound c) where
     word_fits = keystream_fits c sound;
     load_state = λ r. loaded_state r.key_bytes r.iv_bytes (says r);
     load_one = λ r r'. load_one r.key_bytes r.iv_bytes r'.key_bytes r'.iv_bytes (says r) (says r');
-    load_short = λ r. load_short r.key_bytes r.iv_bytes (says r);
+    load_short = λ r. load_short (says r);
     fault_member = λ {key = key} {iv = iv} {f = f} e. plain_member f (faults key iv f e);
   }

@@ -139,6 +139,10 @@ with_iv_fit a v fa fv =
 pub with_iv_state : (a v : List ℕ) → State 16 a → State 4 v → State 16 (with_iv a v)
 with_iv_state a v sa sv = record { count = by_words 16 (λ a. length (with_iv a v) ≡ 16) a sa.count refl; fits = with_iv_fit a v sa.fits sv.fits }
 
+-- a register with a key of four words or of eight, and an IV
+pub filled_state : (n : ℕ) (k v : List ℕ) → (n ≡ 4) ⊎ (n ≡ 8) → State n k → State 4 v → State 16 (with_iv (expanded k) v)
+filled_state n k v sizes sk sv = with_iv_state (expanded k) v (expanded_state n k sizes sk) sv
+
 -- a register that holds a key and an IV is made of what is read off it
 pub held : (n : ℕ) (a k v : List ℕ) → (n ≡ 4) ⊎ (n ≡ 8) → length k ≡ n → length v ≡ 4 → a ≡ with_iv (expanded k) v → Holds n a
 held n a k v sizes lk lv e =
