@@ -2,7 +2,7 @@
 use Rattle.std.proofs.Common.{◌≡◌, ℕ, ◌+◌, ◌*◌, ◌≤◌, true, ◌⊎◌, List, ◌++◌, reverse, length, take, drop, replicate, Option, Some, None, Result, Ok, ok_or, inl, sym, refl, ap, ◌∙◌, subst, ap₂, ⊎_elim, arith, eq-eqb}
 use Rattle.std.proofs.lemmas.List.{take_at, drop_at}
 use Rattle.generator.specs.Meaning.{State, Reaches}
-use Rattle.generator.specs.Calls.{Loaded, Named}
+use Rattle.generator.specs.Calls.{Named}
 use Rattle.generator.specs.declared.OriginFault.{OriginFault}
 use Rattle.generator.specs.declared.OriginFault.TheVariants.{NoOrigin}
 use Rattle.words.proofs.Bytes.{bytes_of_bytes}
@@ -30,10 +30,6 @@ cipher_state n words fits s = joined_state 16 n (register_state_of s.register) (
 
 load_is : (c : Machine) (key iv : List ℕ) → c.takes (length key) ≡ true → length iv ≡ 16 → cipher_load c key iv ≡ Ok (started c (prepared c key iv))
 load_is c key iv taken il = rw (taken, eq-eqb (length iv) 16 il) refl
-
--- what an accepted load answers and leaves
-pub loaded : (c : Machine) (key iv after : List ℕ) → c.takes (length key) ≡ true → length iv ≡ 16 → after ≡ started c (prepared c key iv) → Loaded (cipher c) key iv (Ok tt) after
-loaded c key iv after taken il e = rw (load_is c key iv taken il, Loaded) (refl, e)
 
 -- a state s, and the register a and the machine's words m that the steps of a load come from
 module _ (c : Machine) (sound : Sound c) (s a m : List ℕ) (st : State (16 + c.size) s) (sa : State 16 a) (back : a ++ m ≡ rewound c s) where

@@ -2,6 +2,5 @@ pub mod Puts
 pub mod Answering
 pub mod Turning
 pub mod Recording
-pub mod Sheeting
 pub mod Headings
 pub mod Shorts
