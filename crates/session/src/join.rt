@@ -1,4 +1,4 @@
-// Bytes joined with a generator's keystream.
+// Bytes joined with a generator's keystream. Kept with both as parameters: the generator is the session's and the bytes are the caller's.
 ghost use Rattle.std.specs.Prelude.{◌≡◌, ℕ, ◌+◌, ◌%◌, ◌≤◌, List, length};
 ghost use Rattle.words.specs.Words.{Bytes};
 ghost use Rattle.generator.specs.Meaning.{Meaning};

@@ -1,4 +1,5 @@
-// SNOW 2.0 and SNOW 3G: the register, and a machine beside it.
+// SNOW 2.0 and SNOW 3G: the register, and a machine beside it. Kept with `state_of` in each clause: of the list that a `Model` shows the law `valid`
+// would know no length.
 ghost use Rattle.std.specs.Prelude.{◌≡◌, ◌+◌, ◌++◌, replicate};
 ghost use Rattle.generator.specs.Meaning.{times};
 ghost use Rattle.snow.specs.Refusals.{Filled};

@@ -1,4 +1,4 @@
-// Bytes of a strip and of replies.
+// Bytes of a strip and of replies. Kept with a place beside the buffer: a reply's parts and the replies are both written so.
 ghost use Rattle.std.specs.Prelude.{◌≡◌, ◌+◌, ◌≤◌, length};
 ghost use Rattle.words.specs.Words.{bytes_of};
 ghost use Rattle.strips.specs.Reading.{all_zero};
