@@ -1,5 +1,5 @@
 -- Keys and IVs in the register, and how they are read off again. Assumes nothing.
-use Rattle.std.specs.Prelude.{◌≡◌, ℕ, zero, suc, ◌/◌, ◌%◌, ◌^◌, ◌<◌, ◌≤◌, cond, ◌==◌, ◌⊎◌, List, [], ◌∷◌, map, length, take, ◌≢◌, slice_set, refl}
+use Rattle.std.specs.Prelude.{◌≡◌, ℕ, zero, suc, ◌^◌, ◌<◌, ◌≤◌, ◌⊎◌, List, [], ◌∷◌, map, length, take, ◌≢◌, slice_set, refl}
 use Rattle.std.proofs.Common.{sym, ap, ap₂, subst, ◌∙◌, ⊎_elim, eq-eqb, ne_eqb, arith}
 use Rattle.std.specs.Int.Bits.{xor_self}
 use Rattle.std.specs.List.{range_with_len}
@@ -11,7 +11,7 @@ use Rattle.words.proofs.Words.{fits_append, fits_take, at_below}
 use Rattle.words.proofs.Spelled.{spell, by_words}
 use Rattle.generator.specs.Meaning.{State}
 use Rattle.snow.specs.Register.{at}
-use Rattle.snow.specs.Loading.{inverted, expanded_128, expanded_256, expanded, with_iv}
+use Rattle.snow.specs.Loading.{inverted, expanded_128, expanded_256, expanded, placed, with_iv}
 use Rattle.snow.specs.Origins.{key_in, iv_in, iv_beside, Holds}
 
 inverted_twice : (w : ℕ) → inverted (inverted w) ≡ w
@@ -166,10 +166,7 @@ iv_state n a sizes st =
       fits = (xor_lt 32 (at a 15) (at e 15) (w 15) (x 15), (xor_lt 32 (at a 12) (at e 12) (w 12) (x 12), (xor_lt 32 (at a 10) (at e 10) (w 10) (x 10), (xor_lt 32 (at a 9) (at e 9) (w 9) (x 9), tt))));
     }
 
--- word i of an expanded key of n words: the words' inverses and the words, in turn
-abbrev pub placed : ℕ → List ℕ → ℕ → ℕ
-placed n k i = cond (i / n % 2 == 0) (inverted (at k (i % n))) (at k (i % n))
-
+-- an expanded key, word by word
 pub expanded_placed : (n : ℕ) (k : List ℕ) → (n ≡ 4) ⊎ (n ≡ 8) → length k ≡ n → map (placed n k) (range_with_len 0 16) ≡ expanded k
 expanded_placed n k sizes len =
     by_length n (λ n k e. map (placed n k) (range_with_len 0 16) ≡ e) k sizes len

@@ -1,8 +1,7 @@
 // Keys and IVs in the register before the first step, and read off it again.
 ghost use Rattle.std.specs.Prelude.{◌≡◌, ℕ, ◌*◌, ◌≤◌, ◌⊎◌, length, MatchBool, ◌≢◌};
 ghost use Rattle.snow.specs.Register.{numbered};
-ghost use Rattle.snow.specs.Loading.{expanded, with_iv};
-ghost use Rattle.snow.specs.LoadLaws.{placed};
+ghost use Rattle.snow.specs.Loading.{expanded, placed, with_iv};
 ghost use Rattle.snow.specs.Origins.{key_in, iv_in, Read};
 
 use crate::bytes::put_words;

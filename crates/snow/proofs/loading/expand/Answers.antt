@@ -1,6 +1,7 @@
 use Rattle.std.proofs.Common.{◌∙◌, arith}
 use Rattle.words.proofs.FromFn.{from_fn_same}
-use Rattle.snow.specs.LoadLaws.{placed, expanded_placed}
+use Rattle.snow.specs.Loading.{placed}
+use Rattle.snow.specs.LoadLaws.{expanded_placed}
 use Rattle.snow.proofs.loading.expand.Goals as goal
 
 pub returns : goal.returns
