@@ -37,57 +37,59 @@ fn report(rt: &HostRuntime, call: &str, answer: &Answer) -> anyhow::Result<()> {
     }
 }
 
-fn replay_calls(rt: &HostRuntime) -> anyhow::Result<()> {
-    let mut message = *b"attack at dawn!!";
-    let names = [
-        "open",
-        "apply 0..5",
+const OPENING: Request<'static> = Request::Open {
+    key: &KEY,
+    iv: &IV,
+    limit: 4,
+};
+
+// The calls, by the names under which they are printed.
+const CALLS: [(&str, Request<'static>); 15] = [
+    ("open", OPENING),
+    ("apply 0..5", Request::ApplyToMessage { start: 0, count: 5 }),
+    (
         "apply 5..12",
-        "skip past the limit",
-        "position",
-        "step back 7",
+        Request::ApplyToMessage { start: 5, count: 7 },
+    ),
+    ("skip past the limit", Request::Skip(5)),
+    ("position", Request::Position),
+    ("step back 7", Request::StepBack(7)),
+    (
         "apply 5..12 again",
+        Request::ApplyToMessage { start: 5, count: 7 },
+    ),
+    (
         "apply 4 bytes elsewhere",
-        "step back 11",
-        "apply 5..12 once more",
-        "origin",
-        "close",
-        "position",
-        "open again",
-        "apply 0..12",
-    ];
-    let opening = Request::Open {
-        key: &KEY,
-        iv: &IV,
-        limit: 4,
-    };
-    let requests = [
-        opening,
-        Request::ApplyToMessage { start: 0, count: 5 },
-        Request::ApplyToMessage { start: 5, count: 7 },
-        Request::Skip(5),
-        Request::Position,
-        Request::StepBack(7),
-        Request::ApplyToMessage { start: 5, count: 7 },
         Request::ApplyElsewhere {
             bytes: b"four",
             start: 0,
             count: 4,
         },
-        Request::StepBack(11),
+    ),
+    ("step back 11", Request::StepBack(11)),
+    (
+        "apply 5..12 once more",
         Request::ApplyToMessage { start: 5, count: 7 },
-        Request::Origin,
-        Request::Close,
-        Request::Position,
-        opening,
+    ),
+    ("origin", Request::Origin),
+    ("close", Request::Close),
+    ("position", Request::Position),
+    ("open again", OPENING),
+    (
+        "apply 0..12",
         Request::ApplyToMessage {
             start: 0,
             count: 12,
         },
-    ];
+    ),
+];
+
+fn replay_calls(rt: &HostRuntime) -> anyhow::Result<()> {
+    let mut message = *b"attack at dawn!!";
+    let requests = CALLS.map(|(_, request)| request);
     show::bytes(rt, "message before", &message)?;
     let (session, answers) = replay(rt.alloc(), Snow2::new(), &requests, &mut message)?;
-    for (name, answer) in names.iter().zip(answers.iter()) {
+    for ((name, _), answer) in CALLS.iter().zip(answers.iter()) {
         report(rt, *name, answer)?;
     }
     show::bytes(rt, "message after", &message)
