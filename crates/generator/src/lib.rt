@@ -58,7 +58,7 @@ impl OriginFault {
 
 // Whether two buffers have room for any key and any IV.
 pub fn have_room(key: &[u8], iv: &[u8]) -> bool
-    ensures { MatchBool result (Roomy key.now iv.now) ((length key.now < LONGEST) ⊎ (length iv.now < LONGEST)) }
+    ensures { MatchBool result (Roomy key.now iv.now) ((length key.now < 255) ⊎ (length iv.now < 255)) }
 {
     key.len() >= LONGEST && iv.len() >= LONGEST
 }
