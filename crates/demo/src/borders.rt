@@ -21,10 +21,8 @@ fn refused_origin(session: &mut Session<Snow2>) -> Result<(), Refusal> {
     Ok(())
 }
 
-fn session_borders(rt: &HostRuntime) -> anyhow::Result<()> {
-    let mut session = Session::new(Snow2::new());
+fn opening_borders(rt: &HostRuntime, session: &mut Session<Snow2>) -> anyhow::Result<()> {
     let iv = [0u8; 16];
-    let mut buffer = [0u8; 4];
     tell(
         rt,
         "open with a limit of 0",
@@ -45,7 +43,13 @@ fn session_borders(rt: &HostRuntime) -> anyhow::Result<()> {
         "open with a limit of 16 words",
         session.open(&mut [1u8; 16], &iv, 16),
     )?;
-    tell(rt, "open again", session.open(&mut [1u8; 16], &iv, 16))?;
+    tell(rt, "open again", session.open(&mut [1u8; 16], &iv, 16))
+}
+
+fn session_borders(rt: &HostRuntime) -> anyhow::Result<()> {
+    let mut session = Session::new(Snow2::new());
+    opening_borders(rt, &mut session)?;
+    let mut buffer = [0u8; 4];
     tell(
         rt,
         "apply to 5 bytes of 4",

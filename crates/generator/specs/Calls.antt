@@ -17,6 +17,10 @@ AtFront part before after = after ≡ part ++ drop (length part) before
 abbrev pub Roomy : List ℕ → List ℕ → Type 0
 Roomy key iv = (255 ≤ length key) × (255 ≤ length iv)
 
+-- one of the two holds fewer
+abbrev pub Cramped : List ℕ → List ℕ → Type 0
+Cramped key iv = (length key < 255) ⊎ (length iv < 255)
+
 -- The answer that names the key and the IV which reach s in n words, written to the front of two buffers. Where there are none, and where a
 -- buffer is short, nothing is written.
 abbrev pub Named : Meaning → ℕ → List ℕ → List ℕ → List ℕ → Result (ℕ × ℕ) OriginFault → List ℕ → List ℕ → Type 0
@@ -26,4 +30,4 @@ Named m n s key_before iv_before (Ok lengths) key_after iv_after =
 Named m n s key_before iv_before (Err NoOrigin) key_after iv_after =
     Roomy key_before iv_before × ((key iv : List ℕ) → Reaches m key iv n s → ⊥) × (key_after ≡ key_before) × (iv_after ≡ iv_before)
 Named m n s key_before iv_before (Err ShortBuffer) key_after iv_after =
-    ((length key_before < 255) ⊎ (length iv_before < 255)) × (key_after ≡ key_before) × (iv_after ≡ iv_before)
+    Cramped key_before iv_before × (key_after ≡ key_before) × (iv_after ≡ iv_before)

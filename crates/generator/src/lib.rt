@@ -1,10 +1,10 @@
 // A keystream generator: what every one of them means, keeps and does.
 #![tactic(auto)]
 
-ghost use Rattle.std.specs.Prelude.{◌≡◌, ℕ, List, length, MatchBool, ◌<◌, ◌⊎◌};
+ghost use Rattle.std.specs.Prelude.{◌≡◌, ℕ, List, MatchBool};
 ghost use Rattle.generator.specs.Refusals.{fault_number, member, origin_number};
 ghost use Rattle.generator.specs.Meaning.{Meaning, Lawful, State, times, zeros};
-ghost use Rattle.generator.specs.Calls.{Loaded, Named, Roomy};
+ghost use Rattle.generator.specs.Calls.{Loaded, Named, Roomy, Cramped};
 
 // The longest key and the longest IV, in bytes. A buffer for one has room for the longest.
 pub const LONGEST: usize = 255;
@@ -58,7 +58,7 @@ impl OriginFault {
 
 // Whether two buffers have room for any key and any IV.
 pub fn have_room(key: &[u8], iv: &[u8]) -> bool
-    ensures { MatchBool result (Roomy key.now iv.now) ((length key.now < 255) ⊎ (length iv.now < 255)) }
+    ensures { MatchBool result (Roomy key.now iv.now) (Cramped key.now iv.now) }
 {
     key.len() >= LONGEST && iv.len() >= LONGEST
 }

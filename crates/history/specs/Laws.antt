@@ -2,7 +2,7 @@
 use Rattle.std.specs.Prelude.{◌≡◌, ℕ, ◌+◌, ◌*◌, ◌/◌, ◌%◌, ◌^◌, ◌<◌, ◌≤◌, cond, ◌⊎◌, List, [], ◌∷◌, length, Some, None, Ok, Err, Option, Result, ◌≢◌, bit_xor, nat_le, nat_lt, slice_index}
 use Rattle.words.specs.Words.{Bytes, byte_of}
 use Rattle.generator.specs.Meaning.{Meaning, Reaches}
-use Rattle.generator.specs.Calls.{Roomy, AtFront}
+use Rattle.generator.specs.Calls.{Roomy, Cramped, AtFront}
 use Rattle.generator.specs.declared.OriginFault.TheVariants.{ShortBuffer}
 use Rattle.session.specs.declared.refusals.Refusal.{Refusal}
 use Rattle.session.specs.declared.refusals.Refusal.TheVariants.{Origin}
@@ -157,7 +157,7 @@ pub record SessionLaws (m : Meaning) : Type 0 where
   -- origin names the opening's key and IV, and refuses only a short buffer
   pub origin_named :
       {o : Opening} {h : List Event} {v : View} {msg : List ℕ} (key iv key_after iv_after : List ℕ) (r : Result (ℕ × ℕ) Refusal) → Under m o h v msg → OriginOf m v key iv r key_after iv_after
-      → ((r ≡ Err (Origin ShortBuffer)) × ((length key < 255) ⊎ (length iv < 255)))
+      → ((r ≡ Err (Origin ShortBuffer)) × Cramped key iv)
       ⊎ ((r ≡ Ok (length o.key, length o.iv)) × AtFront o.key key key_after × AtFront o.iv iv iv_after)
   -- what one session made of a buffer, another under the same key and IV and at the same position makes the buffer again
   pub deciphers :

@@ -11,7 +11,7 @@ use Rattle.words.proofs.Words.{fits_append, fits_take, at_below}
 use Rattle.words.proofs.Spelled.{spell, by_words}
 use Rattle.generator.specs.Meaning.{State}
 use Rattle.snow.specs.Register.{at}
-use Rattle.snow.specs.Loading.{inverted, expanded_128, expanded_256, expanded, placed, with_iv}
+use Rattle.snow.specs.Loading.{inverted, expanded_128, expanded_256, expanded, expanded_word, with_iv}
 use Rattle.snow.specs.Origins.{key_in, iv_in, iv_beside, Holds}
 
 inverted_twice : (w : ℕ) → inverted (inverted w) ≡ w
@@ -167,8 +167,8 @@ iv_state n a sizes st =
     }
 
 -- an expanded key, word by word
-pub expanded_placed : (n : ℕ) (k : List ℕ) → (n ≡ 4) ⊎ (n ≡ 8) → length k ≡ n → map (placed n k) (range_with_len 0 16) ≡ expanded k
-expanded_placed n k sizes len =
-    by_length n (λ n k e. map (placed n k) (range_with_len 0 16) ≡ e) k sizes len
-    (λ len. by_words 4 (λ k. map (placed 4 k) (range_with_len 0 16) ≡ expanded_128 k) k len refl)
-    (λ len. by_words 8 (λ k. map (placed 8 k) (range_with_len 0 16) ≡ expanded_256 k) k len refl)
+pub expanded_by_words : (n : ℕ) (k : List ℕ) → (n ≡ 4) ⊎ (n ≡ 8) → length k ≡ n → map (expanded_word n k) (range_with_len 0 16) ≡ expanded k
+expanded_by_words n k sizes len =
+    by_length n (λ n k e. map (expanded_word n k) (range_with_len 0 16) ≡ e) k sizes len
+    (λ len. by_words 4 (λ k. map (expanded_word 4 k) (range_with_len 0 16) ≡ expanded_128 k) k len refl)
+    (λ len. by_words 8 (λ k. map (expanded_word 8 k) (range_with_len 0 16) ≡ expanded_256 k) k len refl)

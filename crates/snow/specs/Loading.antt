@@ -21,9 +21,9 @@ expanded_256 k = map inverted k ++ k
 unfoldable pub expanded : List ℕ → List ℕ
 expanded k = cond (length k == 4) (expanded_128 k) (expanded_256 k)
 
--- word i of an expanded key of n words: the words' inverses and the words, in turn
-abbrev pub placed : ℕ → List ℕ → ℕ → ℕ
-placed n k i = cond (i / n % 2 == 0) (inverted (at k (i % n))) (at k (i % n))
+-- word i of an expanded key of n words, four or eight: the words' inverses and the words, in turn (`expanded_by_words` of LoadLaws)
+abbrev pub expanded_word : ℕ → List ℕ → ℕ → ℕ
+expanded_word n k i = cond (i / n % 2 == 0) (inverted (at k (i % n))) (at k (i % n))
 
 -- IV0 is joined to word 15, IV1 to 12, IV2 to 10 and IV3 to 9 (ISO/IEC 18033-4:2005, 7.2.1, step 2; ETSI/SAGE SNOW 3G 256 v0.3, 4.1)
 abbrev pub with_iv : List ℕ → List ℕ → List ℕ

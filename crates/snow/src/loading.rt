@@ -1,7 +1,7 @@
 // Keys and IVs in the register before the first step, and read off it again.
 ghost use Rattle.std.specs.Prelude.{◌≡◌, ℕ, ◌*◌, ◌≤◌, ◌⊎◌, length, MatchBool, ◌≢◌};
 ghost use Rattle.snow.specs.Register.{numbered};
-ghost use Rattle.snow.specs.Loading.{expanded, placed, with_iv};
+ghost use Rattle.snow.specs.Loading.{expanded, expanded_word, with_iv};
 ghost use Rattle.snow.specs.Origins.{key_in, iv_in, Read};
 
 use crate::bytes::put_words;
@@ -18,7 +18,7 @@ pub(crate) fn expand<const N: usize>(key: &[u32; N]) -> [u32; 16]
     array::from_fn(
         |place: usize| -> u32
             requires sizes { (N ≡ 4) ⊎ (N ≡ 8) }
-            ensures { result ≡ placed N key.entry.now place }
+            ensures { result ≡ expanded_word N key.entry.now place }
         {
             let plain = key[place % N];
             if place / N % 2 == 0 {
