@@ -44,6 +44,34 @@ fn shifted(words: [u32; 16], new: u32) -> [u32; 16]
     ]
 }
 
+// The words before a step that joined `fed` to what it shifted in. Kept written out: `rotate_right` takes half as long again.
+fn unshifted(words: [u32; 16], fed: u32) -> [u32; 16]
+    ensures { result ≡ unshifted words fed }
+{
+    let old = over_alpha(words[15] ^ fed ^ words[1] ^ over_alpha(words[10]));
+    let [
+        a0,
+        a1,
+        a2,
+        a3,
+        a4,
+        a5,
+        a6,
+        a7,
+        a8,
+        a9,
+        a10,
+        a11,
+        a12,
+        a13,
+        a14,
+        _,
+    ] = words;
+    [
+        old, a0, a1, a2, a3, a4, a5, a6, a7, a8, a9, a10, a11, a12, a13, a14,
+    ]
+}
+
 impl Register {
     // A register of zero words.
     pub fn new() -> Register
@@ -81,9 +109,7 @@ impl Register {
     pub(crate) fn shift_out(&mut self, fed: u32)
         ensures { self.new.words ≡ unshifted self.old.words fed }
     {
-        let old = over_alpha(self.words[15] ^ fed ^ self.words[1] ^ over_alpha(self.words[10]));
-        self.words.rotate_right(1);
-        self.words[0] = old;
+        self.words = unshifted(self.words, fed);
     }
 }
 
