@@ -54,13 +54,7 @@ fn unshifted(words: [u32; 16], fed: u32) -> [u32; 16]
         |place: usize| -> u32
             requires { place < 16 }
             ensures { result ≡ slice_index_or (old ∷ words) place 0 }
-        {
-            if place == 0 {
-                old
-            } else {
-                words[place - 1]
-            }
-        },
+        { if place == 0 { old } else { words[place - 1] } },
     )
 }
 

@@ -1,8 +1,7 @@
-use Rattle.std.proofs.Common.{ℕ, ◌≡◌, ◌+◌, List, ◌∷◌, ◌<◌, ◌≤◌, zero, suc, take, length, length-take, slice_index_or, sym, refl, ap, ◌∙◌, arith, rules}
+use Rattle.std.proofs.Common.{ℕ, ◌≡◌, List, ◌∷◌, ◌<◌, zero, suc, take, length, slice_index_or, sym, refl, ◌∙◌, arith, rules}
 use Rattle.std.proofs.lemmas.List.FromFn.{fill_by_all}
-use Rattle.std.proofs.lemmas.List.{get_or-take, length-take-le}
+use Rattle.std.proofs.lemmas.List.{get_or-take}
 use Rattle.words.proofs.FromFn.{from_fn_same}
-use Rattle.snow.specs.Register.{unshifted}
 use Rattle.snow.proofs.register.unshifted.Goals as goal
 
 each : (old : ℕ) (words : List ℕ) (k : ℕ) → k < 16 → slice_index_or (old ∷ take 15 words) k 0 ≡ slice_index_or (old ∷ words) k 0
