@@ -31,6 +31,7 @@ impl<M: Machine> Filled for Snow<M> {
 
 impl Filled for Pair<Snow2, Snow3g> {
     // The first's eighteen words, and then the second's nineteen.
+    #[inline(always)]
     fn filled(words: &[u32]) -> Result<Pair<Snow2, Snow3g>, FillFault> {
         let Some((first, second)) = words.split_at_checked(18) else {
             return Err(FillFault::WrongCount);

@@ -51,7 +51,7 @@ module _ (start count k : ℕ) (buffer part : List ℕ) (within : start + count 
   mid_read i h = search (rules, places)
 
 -- a part of a buffer is joined
-part_joined : (m : Meaning) (v : View) (start count k n : ℕ) (buffer part : List ℕ) → start + count ≤ length buffer → k ≡ count → n ≡ count → length part ≡ count → Joined m v 0 n (take k (drop start buffer)) part
+pub part_joined : (m : Meaning) (v : View) (start count k n : ℕ) (buffer part : List ℕ) → start + count ≤ length buffer → k ≡ count → n ≡ count → length part ≡ count → Joined m v 0 n (take k (drop start buffer)) part
     → Joined m v start count buffer (put_mid start k buffer part)
 part_joined m v start count k n buffer part within size whole long joined =
     record {
@@ -65,7 +65,7 @@ part_joined m v start count k n buffer part within size whole long joined =
 
 module _ (m : Meaning) (s : List ℕ) (p : ℕ) where
   -- so many bytes on, and then as many more
-  ahead_on : (a b : ℕ) → ahead m (placed (ahead m (placed s p) a) (p + a)) b ≡ ahead m (placed s p) (a + b)
+  pub ahead_on : (a b : ℕ) → ahead m (placed (ahead m (placed s p) a) (p + a)) b ≡ ahead m (placed s p) (a + b)
   ahead_on a b =
       let steps : (p + (a + b)) / 4 - p / 4 ≡ ((p + a + b) / 4 - (p + a) / 4) + ((p + a) / 4 - p / 4) = omega arith in
       sym (ap (λ n. times n m.next s) steps ∙ times_add ((p + a + b) / 4 - (p + a) / 4) ((p + a) / 4 - p / 4) m.next s)
@@ -74,7 +74,7 @@ module _ (m : Meaning) (s : List ℕ) (p : ℕ) where
   stream_on a b = ap₂ byte_of (ap m.word (ahead_on a b)) (let same : (p + a + b) % 4 ≡ (p + (a + b)) % 4 = omega arith in same)
 
   -- bytes joined one window behind the other
-  joined_on : (start a b : ℕ) (x y z : List ℕ) → Joined m (placed s p) start a x y → Joined m (placed (ahead m (placed s p) a) (p + a)) (start + a) b y z → Joined m (placed s p) start (a + b) x z
+  pub joined_on : (start a b : ℕ) (x y z : List ℕ) → Joined m (placed s p) start a x y → Joined m (placed (ahead m (placed s p) a) (p + a)) (start + a) b y z → Joined m (placed s p) start (a + b) x z
   joined_on start a b x y z first second =
       record {
         same_length = second.same_length ∙ first.same_length;
@@ -90,7 +90,7 @@ module _ (m : Meaning) (s : List ℕ) (p : ℕ) where
           (second.window j h ∙ ap₂ bit_xor (first.rest (start + a + j) (omega arith)) (stream_on a j ∙ ap (stream_byte m (placed s p)) (sym e)))
 
   -- the bytes of the word that a word's beginning has
-  word_byte : p % 4 ≡ 0 → (w a : ℕ) → w ≡ m.word s → a < 4 → byte_of w a ≡ stream_byte m (placed s p) a
+  pub word_byte : p % 4 ≡ 0 → (w a : ℕ) → w ≡ m.word s → a < 4 → byte_of w a ≡ stream_byte m (placed s p) a
   word_byte start w a e h =
       sym (ap₂ byte_of (ap (λ n. m.word (times n m.next s)) (let none : (p + a) / 4 - p / 4 ≡ 0 = omega arith in none) ∙ sym e) (let same : (p + a) % 4 ≡ a = omega arith in same))
 
@@ -106,7 +106,7 @@ module _ (m : Meaning) (s : List ℕ) (p : ℕ) where
       )
 
   -- four bytes with those of a word, by the exclusive or of two words
-  four_joined : p % 4 ≡ 0 → (w : ℕ) (xs part : List ℕ) → w ≡ m.word s → w < 2 ^ 32 → length xs ≡ 4 → Bytes xs → part ≡ bytes_of (bit_xor (word (get_or xs 0 0) (get_or xs 1 0) (get_or xs 2 0) (get_or xs 3 0)) w) → Joined m (placed s p) 0 4 xs part
+  pub four_joined : p % 4 ≡ 0 → (w : ℕ) (xs part : List ℕ) → w ≡ m.word s → w < 2 ^ 32 → length xs ≡ 4 → Bytes xs → part ≡ bytes_of (bit_xor (word (get_or xs 0 0) (get_or xs 1 0) (get_or xs 2 0) (get_or xs 3 0)) w) → Joined m (placed s p) 0 4 xs part
   four_joined start w (x0 ∷ x1 ∷ x2 ∷ x3 ∷ []) part e small len (h0, (h1, (h2, (h3, _)))) is =
       let b0 = byte_below w 0 in
       let b1 = byte_below w 1 in

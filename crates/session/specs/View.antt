@@ -1,5 +1,5 @@
 -- What a session holds, and the keystream from its position on. Assumes nothing.
-use Rattle.std.specs.Prelude.{ℕ, ◌+◌, ◌-◌, ◌/◌, ◌%◌, List, Some, None, Option}
+use Rattle.std.specs.Prelude.{ℕ, ◌+◌, ◌-◌, ◌/◌, ◌%◌, ◌^◌, ◌≤◌, List, Some, None, Option}
 use Rattle.words.specs.Words.{byte_of}
 use Rattle.generator.specs.Meaning.{Meaning, times, zeros}
 use Rattle.session.specs.declared.openings.Opening.{Opening}
@@ -14,6 +14,10 @@ pub record View : Type 0 where
 abbrev pub seen : List ℕ → Option Opening → View
 seen state (Some o) = record { state = state; position = o.position; limit = o.limit }
 seen state None = record { state = state; position = 0; limit = 0 }
+
+-- what holds of every session: its position is within its limit, and no limit is above 2^52 bytes
+abbrev pub Bounded : View → Type 0
+Bounded v = (v.position ≤ v.limit) × (v.limit ≤ 2 ^ 52)
 
 -- a closed session has zero words, position 0 and limit 0
 abbrev pub shut : Meaning → View

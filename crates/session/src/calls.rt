@@ -1,6 +1,6 @@
 // The calls of a session.
 ghost use Rattle.std.specs.Prelude.{◌≡◌, length, replicate};
-ghost use Rattle.session.specs.View.{shut};
+ghost use Rattle.session.specs.View.{shut, Bounded};
 ghost use Rattle.session.specs.Calls.{Opened, Applied, Skipped, SteppedBack, PositionOf, OriginOf, Closed};
 
 use crate::join::join_all;
@@ -27,6 +27,7 @@ impl<G: Generator> Session<G> {
     pub fn open(&mut self, key: &mut [u8], iv: &[u8], limit: u64) -> Result<(), Refusal>
         ensures opened { Opened G.Generator.meaning self.old key.old iv.now limit result self.new }
         ensures wiped { key.new ≡ replicate (length key.old) 0 }
+        ensures bounded { Bounded self.old }
     {
         let guard = Wiped { bytes: key };
         if self.opening.is_some() {
@@ -45,7 +46,8 @@ impl<G: Generator> Session<G> {
         start: usize,
         count: usize,
     ) -> Result<(), Refusal>
-        ensures { Applied G.Generator.meaning self.old start count buffer.old result self.new buffer.new }
+        ensures applied { Applied G.Generator.meaning self.old start count buffer.old result self.new buffer.new }
+        ensures bounded { Bounded self.old }
     {
         let here = self.opening.ok_or(Refusal::NotOpen)?;
         let len = buffer.len();
@@ -61,7 +63,8 @@ impl<G: Generator> Session<G> {
 
     // Goes on by n bytes, joining nothing.
     pub fn skip(&mut self, n: u64) -> Result<(), Refusal>
-        ensures { Skipped G.Generator.meaning self.old n result self.new }
+        ensures skipped { Skipped G.Generator.meaning self.old n result self.new }
+        ensures bounded { Bounded self.old }
     {
         let here = self.opening.ok_or(Refusal::NotOpen)?;
         let there = here.forward(n)?;
@@ -73,7 +76,8 @@ impl<G: Generator> Session<G> {
 
     // Goes back by n bytes. Kept beside skip: which way the opening and the generator go would be two closures.
     pub fn step_back(&mut self, n: u64) -> Result<(), Refusal>
-        ensures { SteppedBack G.Generator.meaning self.old n result self.new }
+        ensures stepped { SteppedBack G.Generator.meaning self.old n result self.new }
+        ensures bounded { Bounded self.old }
     {
         let here = self.opening.ok_or(Refusal::NotOpen)?;
         let there = here.back(n)?;
@@ -85,7 +89,8 @@ impl<G: Generator> Session<G> {
 
     // The bytes from the opening to here.
     pub fn position(&self) -> Result<u64, Refusal>
-        ensures { PositionOf self.now result }
+        ensures placed { PositionOf self.now result }
+        ensures bounded { Bounded self.now }
     {
         let here = self.opening.ok_or(Refusal::NotOpen)?;
         Ok(here.position())
@@ -95,6 +100,7 @@ impl<G: Generator> Session<G> {
     pub fn origin(&mut self, key: &mut [u8], iv: &mut [u8]) -> Result<(usize, usize), Refusal>
         ensures named { OriginOf G.Generator.meaning self.old key.old iv.old result key.new iv.new }
         ensures same { self.new ≡ self.old }
+        ensures bounded { Bounded self.old }
     {
         let here = self.opening.ok_or(Refusal::NotOpen)?;
         let words = here.position() / 4;
@@ -103,7 +109,8 @@ impl<G: Generator> Session<G> {
 
     // Clears the generator.
     pub fn close(&mut self) -> Result<(), Refusal>
-        ensures { Closed G.Generator.meaning self.old result self.new }
+        ensures closed { Closed G.Generator.meaning self.old result self.new }
+        ensures bounded { Bounded self.old }
     {
         self.opening.ok_or(Refusal::NotOpen)?;
         self.generator.clear();

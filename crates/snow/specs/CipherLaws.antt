@@ -58,7 +58,7 @@ module _ (c : Machine) (sound : Sound c) where
   load_short l = ⊎_elim (λ e. (omega (arith, l.key_long), omega (arith, l.iv_long))) (λ e. (omega (arith, l.key_long), omega (arith, l.iv_long))) l.sizes
 
   -- the state before the steps of a load
-  prepared_of : (n : ℕ) (key iv : List ℕ) → (n ≡ 4) ⊎ (n ≡ 8) → Bytes key → Bytes iv → length key ≡ 4 * n → length iv ≡ 16 → State (16 + c.size) (prepared c key iv)
+  pub prepared_of : (n : ℕ) (key iv : List ℕ) → (n ≡ 4) ⊎ (n ≡ 8) → Bytes key → Bytes iv → length key ≡ 4 * n → length iv ≡ 16 → State (16 + c.size) (prepared c key iv)
   prepared_of n key iv sizes kb ib kl il =
       with_zeros c.size (with_iv (expanded (numbered key)) (numbered iv)) (filled_state n (numbered key) (numbered iv) sizes (numbered_state n key kb kl) (numbered_state 4 iv ib il))
 

@@ -26,7 +26,7 @@ parts n P s st = (
 )
 
 -- a state is its register and the words behind it
-parted : (n : ℕ) (s : List ℕ) → length s ≡ 16 + n → take 16 s ++ spell n 16 s ≡ s
+pub parted : (n : ℕ) (s : List ℕ) → length s ≡ 16 + n → take 16 s ++ spell n 16 s ≡ s
 parted n s len = ap (λ m. take 16 s ++ m) (sym (spelled_behind 16 n s len)) ∙ take-append-drop 16 s
 
 output_below : (n : ℕ) {m : List ℕ} (a : ℕ) → State n m → output m a < 2 ^ 32
@@ -64,23 +64,23 @@ module _ (c : Machine) (sound : Sound c) where
   fed_below : {s : List ℕ} → State (16 + c.size) s → output (machine_before c s) (at s 14) < 2 ^ 32
   fed_below {s} st = let (w, m, known) = parts c.size (λ s. Unit {0}) s st in output_below c.size (at s 14) (sound.back_state (at s 4) m (w 4))
 
-  step_state : {s : List ℕ} → State (16 + c.size) s → State (16 + c.size) (step c s)
+  pub step_state : {s : List ℕ} → State (16 + c.size) s → State (16 + c.size) (step c s)
   unfolding step
   step_state {s} st = clocked_state (feedback s) st (feedback_fits (16 + c.size) st)
 
-  feed_state : {s : List ℕ} → State (16 + c.size) s → State (16 + c.size) (feed c s)
+  pub feed_state : {s : List ℕ} → State (16 + c.size) s → State (16 + c.size) (feed c s)
   unfolding feed
   feed_state {s} st = clocked_state (feedback s ⊕ fsm s) st (xor_lt 32 (feedback s) (fsm s) (feedback_fits (16 + c.size) st) (fsm_below st))
 
-  unstep_state : {s : List ℕ} → State (16 + c.size) s → State (16 + c.size) (unstep c s)
+  pub unstep_state : {s : List ℕ} → State (16 + c.size) s → State (16 + c.size) (unstep c s)
   unfolding unstep
   unstep_state {s} st = unclocked_state 0 st (omega arith)
 
-  unfeed_state : {s : List ℕ} → State (16 + c.size) s → State (16 + c.size) (unfeed c s)
+  pub unfeed_state : {s : List ℕ} → State (16 + c.size) s → State (16 + c.size) (unfeed c s)
   unfolding unfeed
   unfeed_state {s} st = unclocked_state (output (machine_before c s) (at s 14)) st (fed_below st)
 
-  unstep_step : {s : List ℕ} → State (16 + c.size) s → unstep c (step c s) ≡ s
+  pub unstep_step : {s : List ℕ} → State (16 + c.size) s → unstep c (step c s) ≡ s
   unfolding unstep step
   unstep_step {s} st =
       let (w, m, known) = parts c.size (λ s. unclocked c (clocked c s (feedback s)) 0 ≡ s) s st in
@@ -88,7 +88,7 @@ module _ (c : Machine) (sound : Sound c) where
       let back = sound.back_next (at s 5) m (w 5) in
       known cc
 
-  step_unstep : {s : List ℕ} → State (16 + c.size) s → step c (unstep c s) ≡ s
+  pub step_unstep : {s : List ℕ} → State (16 + c.size) s → step c (unstep c s) ≡ s
   unfolding unstep step
   step_unstep {s} st =
       let (w, m, known) = parts c.size (λ s. clocked c (unclocked c s 0) (feedback (unclocked c s 0)) ≡ s) s st in
@@ -96,7 +96,7 @@ module _ (c : Machine) (sound : Sound c) where
       let again = sound.next_back (at s 4) m (w 4) in
       known cc
 
-  unfeed_feed : {s : List ℕ} → State (16 + c.size) s → unfeed c (feed c s) ≡ s
+  pub unfeed_feed : {s : List ℕ} → State (16 + c.size) s → unfeed c (feed c s) ≡ s
   unfolding unfeed feed
   unfeed_feed {s} st =
       let (w, m, known) = parts c.size (λ s. unfeed c (feed c s) ≡ s) s st in
@@ -105,7 +105,7 @@ module _ (c : Machine) (sound : Sound c) where
       let a0 = ap (λ v. over_alpha ((feedback s ⊕ fsm s) ⊕ v ⊕ at s 2 ⊕ over_alpha (at s 11))) fed ∙ dropped_back (at s 0) (at s 2) (over_alpha (at s 11)) (fsm s) (w 0) in
       known cc
 
-  feed_unfeed : {s : List ℕ} → State (16 + c.size) s → feed c (unfeed c s) ≡ s
+  pub feed_unfeed : {s : List ℕ} → State (16 + c.size) s → feed c (unfeed c s) ≡ s
   unfolding unfeed feed
   feed_unfeed {s} st =
       let (w, m, known) = parts c.size (λ s. feed c (unfeed c s) ≡ s) s st in

@@ -1,6 +1,6 @@
 // Words read from bytes, and written as bytes.
-ghost use Rattle.std.specs.Prelude.{◌≡◌, ◌*◌, ◌≤◌, ◌++◌, length, drop};
-ghost use Rattle.words.specs.Words.{words_bytes};
+ghost use Rattle.std.specs.Prelude.{◌≡◌, ◌-◌, ◌*◌, ◌<◌, ◌≤◌, ◌++◌, length, drop};
+ghost use Rattle.words.specs.Words.{words_bytes, word_at};
 ghost use Rattle.snow.specs.Register.{numbered};
 
 use std::array;
@@ -11,9 +11,12 @@ pub(crate) fn numbered_words<const N: usize>(bytes: &[u8]) -> [u32; N]
     requires { length bytes.now ≡ 4 * N }
     ensures { result ≡ numbered bytes.now }
 {
-    let mut words: [u32; N] = array::from_fn(|place| word_at(bytes, place));
-    words.reverse();
-    words
+    array::from_fn(
+        |place: usize| -> u32
+            requires { place < N }
+            ensures { result ≡ word_at bytes.entry.now (N - 1 - place) }
+        { word_at(bytes, N - 1 - place) },
+    )
 }
 
 // The bytes of some words, at the front of a buffer. Kept by place: after a loop over `chunks_exact_mut` a proof knows no byte of the buffer.

@@ -1,5 +1,5 @@
 // The register that SNOW 2.0 and SNOW 3G share, and the bare register as a generator.
-ghost use Rattle.std.specs.Prelude.{◌≡◌, ℕ, ◌^◌, ◌<◌, length, replicate, slice_index};
+ghost use Rattle.std.specs.Prelude.{◌≡◌, ℕ, ◌^◌, ◌<◌, ◌∷◌, length, replicate, slice_index, slice_index_or};
 ghost use Rattle.snow.specs.Refusals.{Filled};
 ghost use Rattle.snow.specs.Register.{feedback, shifted, unshifted, register};
 ghost use Rattle.snow.specs.RegisterLaws.{register_lawful, register_fits};
@@ -8,6 +8,7 @@ use crate::bytes::{numbered_words, put_words};
 use crate::refusals::FillFault;
 use fields::{over_alpha, times_alpha};
 use generator::{Fault, Generator, OriginFault, have_room};
+use std::array;
 
 // Sixteen words, a0 first.
 #[derive(Clone, Copy)]
@@ -42,6 +43,19 @@ fn shifted(words: [u32; 16], new: u32) -> [u32; 16]
     [
         a1, a2, a3, a4, a5, a6, a7, a8, a9, a10, a11, a12, a13, a14, a15, new,
     ]
+}
+
+// Back over a step that joined `fed` to what it shifted in. Made anew: `rotate_right` takes half as long again.
+fn unshifted(words: [u32; 16], fed: u32) -> [u32; 16]
+    ensures { result ≡ unshifted words fed }
+{
+    let old = over_alpha(words[15] ^ fed ^ words[1] ^ over_alpha(words[10]));
+    array::from_fn(
+        |place: usize| -> u32
+            requires { place < 16 }
+            ensures { result ≡ slice_index_or (old ∷ words) place 0 }
+        { if place == 0 { old } else { words[place - 1] } },
+    )
 }
 
 impl Register {
@@ -81,9 +95,7 @@ impl Register {
     pub(crate) fn shift_out(&mut self, fed: u32)
         ensures { self.new.words ≡ unshifted self.old.words fed }
     {
-        let old = over_alpha(self.words[15] ^ fed ^ self.words[1] ^ over_alpha(self.words[10]));
-        self.words.rotate_right(1);
-        self.words[0] = old;
+        self.words = unshifted(self.words, fed);
     }
 }
 

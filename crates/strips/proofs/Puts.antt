@@ -18,7 +18,7 @@ front_part n xs within =
     (ap (λ k. take k xs) same, ap (λ k. length (take k xs)) same ∙ length-take-le n xs within)
 
 -- what lies behind the bytes written
-drop_put : (at : ℕ) (bytes buffer : List ℕ) (k : ℕ) → at ≤ length buffer → drop (at + length bytes + k) (put_at at bytes buffer) ≡ drop (at + length bytes + k) buffer
+pub drop_put : (at : ℕ) (bytes buffer : List ℕ) (k : ℕ) → at ≤ length buffer → drop (at + length bytes + k) (put_at at bytes buffer) ≡ drop (at + length bytes + k) buffer
 drop_put at bytes buffer k within =
     let n = at + length bytes in
     let front = take at buffer ++ bytes in

@@ -16,17 +16,21 @@ use crate::strip::{MOST_BYTES, Strip};
 use generator::Generator;
 use session::Session;
 
-// A run in progress. Its replies are lent to it, since a proof loses what becomes of a buffer that a field of a field borrows.
+// A run in progress. Its replies are lent to it, since a proof loses what becomes of a buffer that a field of a field borrows; and so is the buffer
+// that a reply's bytes are made in, since a copy into a field of it is compiled to a call of `memmove`.
 #[derive(Drop)]
 struct Running<'a, G: Generator> {
     session: Session<G>,
     cursor: Cursor<'a>,
-    scratch: [u8; MOST_BYTES],
 }
 
 impl<'a, G: Generator> Running<'a, G> {
     // One order: read, put to the session and replied to.
-    fn turn(&mut self, replies: &mut Replies<'_>) -> Result<Order<'a>, Stop>
+    fn turn(
+        &mut self,
+        replies: &mut Replies<'_>,
+        scratch: &mut [u8; MOST_BYTES],
+    ) -> Result<Order<'a>, Stop>
         ensures turned { (p : Progress) (before : List ℕ) → Holds p before self.old.cursor replies.old → Turned G.Generator.meaning p before self.old.cursor self.old.session (length replies.old.buffer.now) result self.new.cursor replies.new self.new.session }
         ensures same_buffer { SameBuffer replies.old replies.new }
         ensures onward { Onward self.old.cursor result self.new.cursor }
@@ -46,19 +50,19 @@ impl<'a, G: Generator> Running<'a, G> {
         if replies.room() < order.reply_room() {
             return Err(Stop::NoRoom);
         }
-        let answer = answer(&mut self.session, order, &mut self.scratch);
-        replies.put_answer(place, order, answer, &self.scratch);
+        let answer = answer(&mut self.session, order, scratch);
+        replies.put_answer(place, order, answer, scratch);
         self.cursor = cursor.behind(words, answer.is_err());
         Ok(order)
     }
 
     // Order after order, until the end or a stop.
-    fn go(&mut self, replies: &mut Replies<'_>) -> Result<(), Stop>
+    fn go(&mut self, replies: &mut Replies<'_>, scratch: &mut [u8; MOST_BYTES]) -> Result<(), Stop>
         requires { Begins G.Generator.meaning self.old.cursor replies.old self.old.session }
         ensures went { Went G.Generator.meaning self.old.cursor replies.old.buffer.now (result_err result) self.new.cursor replies.new }
         ensures same_buffer { SameBuffer replies.old replies.new }
     {
-        while !self.turn(replies)?.is_end() {}
+        while !self.turn(replies, scratch)?.is_end() {}
         Ok(())
     }
 }
@@ -95,9 +99,9 @@ pub fn run<G: Generator + Drop>(generator: G, strip: &[u8], replies: &mut [u8]) 
     let mut running = Running {
         session: Session::new(generator),
         cursor: Cursor::new(strip),
-        scratch: [0; MOST_BYTES],
     };
-    let stopped = running.go(&mut replies).err();
+    let mut scratch = [0; MOST_BYTES];
+    let stopped = running.go(&mut replies, &mut scratch).err();
     let cursor = running.cursor;
     Report {
         stopped,

@@ -28,7 +28,8 @@ fn names(cipher: &mut Snow2, words: u32, key: &[u8], iv: &[u8]) -> bool {
 fn compare_line(rt: &HostRuntime, title: &str, line: &str) -> anyhow::Result<Tally> {
     let mut words = line.split_whitespace();
     let text = hex::word(words.next())?;
-    let key = hex::read_key(rt.alloc(), text)?;
+    let mut buffer = [0; 32];
+    let key = hex::read_key(&mut buffer, text)?;
     let digits = text.len();
     if digits % 32 != 0 {
         println!(rt;
@@ -41,7 +42,7 @@ fn compare_line(rt: &HostRuntime, title: &str, line: &str) -> anyhow::Result<Tal
         hex::word(words.next())?,
         hex::word(words.next())?,
     ])?;
-    let mut cipher = loaded(&key, &iv)?;
+    let mut cipher = loaded(key, &iv)?;
     let mut tally = Tally::default();
     for printed in words {
         let held = cipher.word();
@@ -52,7 +53,7 @@ fn compare_line(rt: &HostRuntime, title: &str, line: &str) -> anyhow::Result<Tal
         tally.count(agrees);
         cipher.forward();
     }
-    if !names(&mut cipher, tally.compared, &key, &iv) {
+    if !names(&mut cipher, tally.compared, key, &iv) {
         return Err(anyhow!("an origin is not the key and the IV that were loaded"));
     }
     Ok(tally)

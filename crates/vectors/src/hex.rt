@@ -1,7 +1,6 @@
 // Hexadecimal text as bytes and words.
 use crate::tables::number;
 use anyhow::Context;
-use std::alloc::Global;
 
 fn digit(byte: u8) -> anyhow::Result<u8> {
     let value = char::from(byte)
@@ -10,16 +9,24 @@ fn digit(byte: u8) -> anyhow::Result<u8> {
     Ok(u8::try_from(value)?)
 }
 
-// A key as printed. One that lacks its last byte is taken with its last printed byte once more; the program says so.
-pub(crate) fn read_key(heap: Global, printed: &str) -> anyhow::Result<Vec<u8>> {
-    let mut key = Vec::new(heap);
-    for pair in printed.as_bytes().chunks_exact(2) {
-        key.push(digit(pair[0])? << 4 | digit(pair[1])?)?;
+// A key as printed, at the front of a buffer: no key is longer. One that lacks its last byte is taken with its last printed byte once more; the
+// program says so.
+pub(crate) fn read_key<'a>(buffer: &'a mut [u8; 32], printed: &str) -> anyhow::Result<&'a [u8]> {
+    let (pairs, odd) = printed.as_bytes().as_chunks::<2>();
+    for (place, [high, low]) in pairs.iter().enumerate() {
+        let byte = digit(*high)? << 4 | digit(*low)?;
+        *buffer.get_mut(place).context("a key is too long")? = byte;
     }
-    if key.len() == 15 {
-        key.push(key[14])?;
+    // half a byte has to be a digit too
+    for half in odd {
+        digit(*half)?;
     }
-    Ok(key)
+    let mut len = pairs.len();
+    if len == 15 {
+        buffer[15] = buffer[14];
+        len = 16;
+    }
+    buffer.get(..len).context("a key is too long")
 }
 
 // The IV of four words, IV3 first.

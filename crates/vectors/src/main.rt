@@ -17,7 +17,9 @@ fn compare_table(rt: &HostRuntime, title: &str, file: &str, table: Table) -> any
     let mut tally = Tally::default();
     let mut full = Tally::default();
     for (place, printed) in text.split_whitespace().enumerate() {
-        let place = u8::try_from(place).context("a table has more than 256 entries")?;
+        let place = u8::try_from(place)
+            .ok()
+            .context("a table has more than 256 entries")?;
         let held = table.held(place);
         let agrees = tables::number(printed)? == held;
         if !agrees {
@@ -37,6 +39,9 @@ fn compare_table(rt: &HostRuntime, title: &str, file: &str, table: Table) -> any
     Ok(())
 }
 
+// Examples are counted as far as this.
+const MOST_EXAMPLES: u32 = 0xFFFF;
+
 fn compare_doublings(rt: &HostRuntime) -> anyhow::Result<()> {
     let text = fs::read_to_string(rt, "etsi_mulx.txt")?;
     let mut tally = Tally::default();
@@ -51,11 +56,9 @@ fn compare_doublings(rt: &HostRuntime) -> anyhow::Result<()> {
         }
         tally.count(printed == held);
     }
-    let Tally {
-        compared,
-        differing,
-    } = tally;
-    println!(rt; "ETSI/SAGE 3.1.1 MULx: {compared} examples compared, {differing} differ")?;
+    let examples = tally.compared.min(MOST_EXAMPLES);
+    let differing = tally.differing.min(MOST_EXAMPLES);
+    println!(rt; "ETSI/SAGE 3.1.1 MULx: {examples} examples compared, {differing} differ")?;
     Ok(())
 }
 

@@ -49,5 +49,7 @@ pub(crate) fn number(printed: &str) -> anyhow::Result<u32> {
 
 pub(crate) fn byte(printed: Option<&str>) -> anyhow::Result<u8> {
     let text = printed.context("a line is too short")?;
-    u8::try_from(number(text)?).context("a number is no byte")
+    u8::try_from(number(text)?)
+        .ok()
+        .context("a number is no byte")
 }

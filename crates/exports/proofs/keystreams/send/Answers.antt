@@ -28,7 +28,7 @@ returns-in_err-skip g c =
     let made = subst (λ v. Opened m v c.args.key.now task.iv.now task.limit (Ok tt) after) c.new-session.ensures c.in_ok-open.ensures.opened in
     record {
       sent = subst (λ r. Sent m c.args.key.now task.iv.now task.limit task.skipped task.start task.count buffer r buffer) (sym (handed_on c.from_residual-in_err-skip.result e c.from_residual-in_err-skip.ensures.1))
-          (not_skipped after _ e made c.in_err-skip.ensures);
+          (not_skipped after _ e made c.in_err-skip.ensures.skipped);
       wiped = c.open.ensures.wiped;
     }
 
@@ -39,6 +39,6 @@ returns g c =
     let after = c.open.new.self in
     let made = subst (λ v. Opened m v c.args.key.now task.iv.now task.limit (Ok tt) after) c.new-session.ensures c.in_ok-open.ensures.opened in
     record {
-      sent = applied after _ _ _ c.apply_keystream.result made c.in_ok-skip.ensures c.apply_keystream.ensures;
+      sent = applied after _ _ _ c.apply_keystream.result made c.in_ok-skip.ensures.skipped c.apply_keystream.ensures.applied;
       wiped = c.open.ensures.wiped;
     }

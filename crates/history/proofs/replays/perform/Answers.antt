@@ -22,7 +22,7 @@ returns-in_ok-copy-in-Open g c =
 
 pub returns-in-ApplyToMessage : goal.returns-in-ApplyToMessage
 returns-in-ApplyToMessage g c =
-    as_asked c.in-ApplyToMessage.is (applies c.in-ApplyToMessage.start c.in-ApplyToMessage.count c.apply_keystream.result c.apply_keystream.ensures)
+    as_asked c.in-ApplyToMessage.is (applies c.in-ApplyToMessage.start c.in-ApplyToMessage.count c.apply_keystream.result c.apply_keystream.ensures.applied)
 
 pub returns-in_ok-copy-in-ApplyElsewhere : goal.returns-in_ok-copy-in-ApplyElsewhere
 returns-in_ok-copy-in-ApplyElsewhere g c =
@@ -39,16 +39,16 @@ returns-in_ok-copy-in-ApplyElsewhere g c =
     let out : vec_items (with_items copy left) ≡ left = with_items_is copy left (search rules) in
     as_asked c.in-ApplyElsewhere.is
     (elsewhere bytes start count r (with_items copy left)
-    (subst (λ b. Applied m v start count b r w (vec_items (with_items copy left))) same (subst (Applied m v start count c.deref_mut-in-ApplyElsewhere.result.now r w) (sym out) c.apply_keystream-done.ensures)))
+    (subst (λ b. Applied m v start count b r w (vec_items (with_items copy left))) same (subst (Applied m v start count c.deref_mut-in-ApplyElsewhere.result.now r w) (sym out) c.apply_keystream-done.ensures.applied)))
 
 pub returns-in-Skip : goal.returns-in-Skip
-returns-in-Skip g c = as_asked c.in-Skip.is (skips c.in-Skip.n c.skip.result c.skip.ensures)
+returns-in-Skip g c = as_asked c.in-Skip.is (skips c.in-Skip.n c.skip.result c.skip.ensures.skipped)
 
 pub returns-in-StepBack : goal.returns-in-StepBack
-returns-in-StepBack g c = as_asked c.in-StepBack.is (steps_back c.in-StepBack.n c.step_back.result c.step_back.ensures)
+returns-in-StepBack g c = as_asked c.in-StepBack.is (steps_back c.in-StepBack.n c.step_back.result c.step_back.ensures.stepped)
 
 pub returns-in-Position : goal.returns-in-Position
-returns-in-Position g c = as_asked c.in-Position.is (asks_place c.position.result c.position.ensures)
+returns-in-Position g c = as_asked c.in-Position.is (asks_place c.position.result c.position.ensures.placed)
 
 pub returns-in_ok-iv-in-Origin : goal.returns-in_ok-iv-in-Origin
 returns-in_ok-iv-in-Origin g c =
@@ -70,4 +70,4 @@ returns-in_ok-iv-in-Origin g c =
     (asks_origin r (with_items key key_left) (with_items iv iv-left) named))
 
 pub returns-in-Close : goal.returns-in-Close
-returns-in-Close g c = as_asked c.in-Close.is (closes c.close.result c.close.ensures)
+returns-in-Close g c = as_asked c.in-Close.is (closes c.close.result c.close.ensures.closed)

@@ -8,7 +8,7 @@ use Rattle.strips.proofs.answers.answer_position.Goals as goal
 pub returns-in_err-position-clause-answered : goal.returns-in_err-position-clause-answered
 returns-in_err-position-clause-answered g c =
     refused c.from_residual.result _ c.in_err-position.field-0.0 c.from_residual.ensures.1
-    (asks_place (Err c.in_err-position.field-0.0) c.in_err-position.ensures)
+    (asks_place (Err c.in_err-position.field-0.0) c.in_err-position.ensures.placed)
 
 pub returns-clause-answered : goal.returns-clause-answered
 returns-clause-answered g c =
@@ -18,4 +18,4 @@ returns-clause-answered g c =
     let same : take 8 c.put.new.buffer ≡ eight_bytes n =
     ap (take 8) c.put.ensures ∙ take_put 0 bytes c.args.reply.now 8 (omega arith) (omega arith) ∙ c.to_be_bytes.ensures in
     let v = c.args.session.now in
-    subst (λ bs. Answered g.G.Generator.meaning v placing (Ok bs) v) (sym same) (asks_place (Ok n) c.in_ok-position.ensures)
+    subst (λ bs. Answered g.G.Generator.meaning v placing (Ok bs) v) (sym same) (asks_place (Ok n) c.in_ok-position.ensures.placed)
