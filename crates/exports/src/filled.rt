@@ -30,7 +30,8 @@ impl<M: Machine> Filled for Snow<M> {
 }
 
 impl Filled for Pair<Snow2, Snow3g> {
-    // The first's eighteen words, and then the second's nineteen.
+    // The first's eighteen words, and then the second's nineteen. Inlined, since a pair is long: handed over in memory, it costs a short call a
+    // quarter of its time.
     #[inline(always)]
     fn filled(words: &[u32]) -> Result<Pair<Snow2, Snow3g>, FillFault> {
         let Some((first, second)) = words.split_at_checked(18) else {

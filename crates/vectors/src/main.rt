@@ -39,7 +39,7 @@ fn compare_table(rt: &HostRuntime, title: &str, file: &str, table: Table) -> any
     Ok(())
 }
 
-// Examples are counted as far as this.
+// The counts of examples stop here, as they did in sixteen bits: what is printed stays the same.
 const MOST_EXAMPLES: u32 = 0xFFFF;
 
 fn compare_doublings(rt: &HostRuntime) -> anyhow::Result<()> {
